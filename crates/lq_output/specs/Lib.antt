@@ -1,0 +1,9 @@
+pub mod Script
+pub mod Tokens
+pub mod Grammar
+pub mod Alike
+pub mod Steps
+pub mod Printing
+pub mod Faults
+pub mod Sentences
+pub mod Output
