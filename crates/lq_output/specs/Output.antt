@@ -3,7 +3,9 @@ use Rattle.std.specs.Prelude.{ℕ, ◌+◌, ◌&&◌, Bool, true, false, nat_lt,
 use Rattle.lq_output.specs.declared.Status.{Status}
 use Rattle.lq_output.specs.Script.{is_blank, cut}
 use Rattle.lq_output.specs.Faults.{Fault, not_built}
-use Rattle.lq_output.specs.Sentences.{Place, outside, State, sentence, fault_text}
+use Rattle.lq_calculus.specs.Declarations.{Env}
+use Rattle.lq_calculus.specs.Typing.{DerivedEnv}
+use Rattle.lq_output.specs.Sentences.{Place, outside, State, sentence, fault_text, defined}
 
 pub record Output : Type 0 where
   pub text : List ℕ
@@ -48,3 +50,35 @@ too_long = record { text = codes "Error: script longer than 4194304 bytes" ++ 10
 -- the output of a script; `n` bounds the depth of the kernel's calls, and every bound that is large enough gives the same
 unfoldable pub output : ℕ → List ℕ → Output
 output n bytes = elim (nat_lt most_bytes (length bytes)) [ true ↦ too_long | false ↦ run n start 1 (cut bytes).sentences (cut bytes).rest ]
+
+-- the declarations with which a run ends
+unfoldable pub reached : ℕ → State → List (List ℕ) → Env
+reached n s [] = s.env
+reached n s (p ∷ ps) = elim (sentence n s p) [ Ok r ↦ reached n r.1 ps | Err f ↦ s.env ]
+
+-- the declarations of a script: those of its theorems that are accepted, in order
+unfoldable pub declarations : ℕ → List ℕ → Env
+declarations n bytes = elim (nat_lt most_bytes (length bytes)) [ true ↦ [] | false ↦ reached n start (cut bytes).sentences ]
+
+-- a line for each declaration
+unfoldable pub reports : Env → List ℕ
+reports [] = []
+reports (e ∷ env) = defined e.0 ++ reports env
+
+-- what may stand behind the reports: nothing, or one line of an error
+pub data IsLastLine : List ℕ → Type 0 where
+  no_line : IsLastLine []
+  fault_line : (k : ℕ) (f : Fault) → IsLastLine (refused k f).text
+  long_line : IsLastLine too_long.text
+
+-- what is said of each script: each report is of a declaration, each declaration is reported, in order, with at most one line
+-- behind them; and each declaration's type has a sort and its body has that type by the typing rules, over those before it
+pub record HasDerivations (n : ℕ) (bytes : List ℕ) : Type 0 where
+  pub last : List ℕ
+  pub is_last : IsLastLine last
+  pub text : (output n bytes).text ≡ reports (declarations n bytes) ++ last
+  pub derived : DerivedEnv (declarations n bytes)
+
+-- it holds for every bound that is large enough
+abbrev pub Eventually : (ℕ → Type 0) → Type 0
+Eventually P = (m : ℕ) × ((n : ℕ) → m ≤ n → P n)
