@@ -1,5 +1,5 @@
 -- What a script's bytes give: the bytes written, and the status.
-use Rattle.std.specs.Prelude.{ℕ, ◌+◌, ◌&&◌, Bool, true, false, nat_lt, List, [], ◌∷◌, ◌++◌, length, Ok, Err, codes, decimal}
+use Rattle.std.specs.Prelude.{◌≡◌, ◌≤◌, ℕ, ◌+◌, ◌&&◌, Bool, true, false, nat_lt, List, [], ◌∷◌, ◌++◌, length, Ok, Err, codes, decimal}
 use Rattle.lq_output.specs.declared.Status.{Status}
 use Rattle.lq_output.specs.Script.{is_blank, cut}
 use Rattle.lq_output.specs.Faults.{Fault, not_built}
