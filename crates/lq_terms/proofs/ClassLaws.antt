@@ -10,7 +10,7 @@ use Rattle.lq_terms.specs.declared.nodes.Node.{Node}
 use Rattle.lq_terms.specs.declared.classes.Shape.{Shape}
 use Rattle.lq_terms.specs.declared.entries.Entry.{Entry}
 use Rattle.lq_terms.specs.Terms.{Terms, HasName, HasTerm, HasParts, EachPart, text_of, tree_of, node_tree}
-use Rattle.lq_terms.specs.Shapes.{AreApart, shape_by}
+use Rattle.lq_terms.specs.Shapes.{AreDistinct, shape_by}
 use Rattle.lq_terms.specs.Sound.{IsSound, AreClassed, bank_of, class_at}
 use Rattle.lq_terms.proofs.Trees.{slice_get-push, EachPart-weaker}
 use Rattle.lq_terms.proofs.Shapes.{node_alike, node_shape, shape_by-same}
@@ -36,9 +36,9 @@ module _ (entries : List Entry) (e : Entry) where
   shape-push = shape_by-same (class_at entries) (class_at (entries ++ e ∷ [])) (λ _. Unit {0}) (λ t. t.place < length entries) class-push
 
 -- more shapes
-pub AreClassed-wider : (shapes wider : List Shape) (entries : List Entry) → AreApart wider → ((i : ℕ) (s : Shape) → slice_get shapes i ≡ Some s → slice_get wider i ≡ Some s) → AreClassed shapes entries → AreClassed wider entries
-AreClassed-wider shapes wider entries apart kept classed = record {
-  apart = apart;
+pub AreClassed-wider : (shapes wider : List Shape) (entries : List Entry) → AreDistinct wider → ((i : ℕ) (s : Shape) → slice_get shapes i ≡ Some s → slice_get wider i ≡ Some s) → AreClassed shapes entries → AreClassed wider entries
+AreClassed-wider shapes wider entries distinct kept classed = record {
+  distinct = distinct;
   classes = λ k e s. kept e.class _ (classed.classes k e s);
   counts = classed.counts;
 }
@@ -49,7 +49,7 @@ pub AreClassed-push :
     → EachPart (λ _. Unit {0}) (λ t. t.place < length entries) e.node → slice_get shapes e.class ≡ Some (shape_by (class_at entries) e.node) → e.shapes ≡ length shapes
     → AreClassed shapes entries → AreClassed shapes (entries ++ e ∷ [])
 AreClassed-push shapes entries e old new stands count classed = record {
-  apart = classed.apart;
+  distinct = classed.distinct;
   classes = λ k d s. shape k d (slice_get-push entries e d k s);
   counts = λ j k c d r s l. counted j k c d l (slice_get-push entries e c j r) (slice_get-push entries e d k s);
 }
@@ -102,7 +102,7 @@ module _ (shapes fewer : List Shape) (entries first : List Entry) (m n : ℕ) (f
       ((k : ℕ) (e : Entry) → slice_get entries k ≡ Some e → EachPart (λ _. Unit {0}) (λ t. t.place < k) e.node) → ((k : ℕ) (e : Entry) → slice_get first k ≡ Some e → k + 1 ≡ length first → m ≡ e.shapes) → AreClassed shapes entries
       → AreClassed fewer first
   AreClassed-take parts count classed = record {
-    apart = λ i j s p q. classed.apart i j s (whole i s p) (whole j s q);
+    distinct = λ i j s p q. classed.distinct i j s (whole i s p) (whole j s q);
     classes = λ k e s.
         ap (λ (ss : List Shape). slice_get ss e.class) f
         ∙ slice_get-of_take shapes m e.class _ (below k e s) (classed.classes k e (taken k e s))
@@ -153,7 +153,7 @@ module _ (names : List (List ℕ)) (shapes : List Shape) (entries : List Entry) 
       let shapes_are : shape_by (class_at entries) d.0.node ≡ shape_by (class_at entries) e.0.node =
       node_shape (text_of bank) (tree_of bank) (class_at entries) (HasName bank) (λ v. v.place < b) (λ x y h k. same_text names entries bank refl sound x y h k) (λ v w h k. class_below b (omega arith) v w h k) d.0.node e.0.node
       (parts_below b t d.0 l d.1) (parts_below b u e.0 m e.1) nodes_are in
-      classed.apart (class_at entries t) (class_at entries u) (shape_by (class_at entries) e.0.node) (shape_is t d.0 d.1 ∙ ap Some shapes_are) (shape_is u e.0 e.1)
+      classed.distinct (class_at entries t) (class_at entries u) (shape_by (class_at entries) e.0.node) (shape_is t d.0 d.1 ∙ ap Some shapes_are) (shape_is u e.0 e.1)
 
   pub same_is : (now : Terms) → bank_of names entries ≡ now → (t u : TermId) → HasTerm now t → HasTerm now u → (b : Bool) → Decides b (class_at entries t ≡ class_at entries u) → IsTrue b ↔ Same (tree_of now t) (tree_of now u)
   same_is now v t u h k b d =

@@ -14,7 +14,7 @@ use Rattle.lq_terms.specs.declared.nodes.NameId.{NameId}
 use Rattle.lq_terms.specs.declared.nodes.TermId.{TermId}
 use Rattle.lq_terms.specs.declared.nodes.Node.{Node}
 use Rattle.lq_terms.specs.declared.classes.Shape.{Shape}
-use Rattle.lq_terms.specs.Shapes.{AreApart, shape_by}
+use Rattle.lq_terms.specs.Shapes.{AreDistinct, shape_by}
 use Rattle.lq_terms.specs.Terms.{trees_by, node_by, EachPart}
 
 -- what `==` answers of two shapes
@@ -40,9 +40,9 @@ classes_own xs = nat_list_eq_equiv.refl xs
 pub own : (a : Shape) → shapes_eq a a ≡ true
 own a = grind (arith, classes_own)
 
--- the keys of a set of shapes are apart
-pub apart_keys : (shapes : List Shape) → IsDistinct shapes_eq shapes → AreApart shapes
-apart_keys shapes h i j s p q = by_order (cases_lt i j)
+-- no key of a set of shapes stands twice
+pub distinct_keys : (shapes : List Shape) → IsDistinct shapes_eq shapes → AreDistinct shapes
+distinct_keys shapes h i j s p q = by_order (cases_lt i j)
   where
     at : (k : ℕ) → slice_get shapes k ≡ Some s → get_or shapes k s ≡ s
     at k r = get_or_from_slice_get shapes k s s r

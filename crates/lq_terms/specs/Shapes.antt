@@ -5,8 +5,8 @@ use Rattle.lq_terms.specs.declared.nodes.TermId.{TermId}
 use Rattle.lq_terms.specs.declared.classes.Shape.{Shape}
 
 -- no shape stands at two places
-abbrev pub AreApart : List Shape → Type 0
-AreApart shapes = (i j : ℕ) (s : Shape) → slice_get shapes i ≡ Some s → slice_get shapes j ≡ Some s → i ≡ j
+abbrev pub AreDistinct : List Shape → Type 0
+AreDistinct shapes = (i j : ℕ) (s : Shape) → slice_get shapes i ≡ Some s → slice_get shapes j ≡ Some s → i ≡ j
 
 -- a node without its binder's name, by the classes of its parts
 abbrev pub shape_by : (TermId → ℕ) → Node → Shape

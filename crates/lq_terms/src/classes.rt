@@ -7,7 +7,7 @@ ghost use Rattle.std.specs.Cmp.Rules.{comparing, hashing};
 ghost use Rattle.std.specs.Hash as fed;
 ghost use Rattle.std.proofs.Common.{rules};
 ghost use Rattle.lq_terms.specs.declared.classes.Shape.{Shape};
-ghost use Rattle.lq_terms.specs.Shapes.{AreApart};
+ghost use Rattle.lq_terms.specs.Shapes.{AreDistinct};
 
 use crate::nodes::{NameId, NoMemory};
 use indexmap::IndexSet;
@@ -98,10 +98,10 @@ pub(crate) enum Shape {
 
 /// The class of a shape, which joins the shapes if it is new.
 pub(crate) fn class_of(shapes: &mut IndexSet<Shape>, shape: Shape) -> Result<Class, NoMemory>
-    requires { AreApart shapes.old.keys }
+    requires { AreDistinct shapes.old.keys }
     ensures stands { IfOk result (λ c. slice_get shapes.new.keys c ≡ Some shape) }
     ensures kept { (i : ℕ) (s : Shape) → slice_get shapes.old.keys i ≡ Some s → slice_get shapes.new.keys i ≡ Some s }
-    ensures apart { AreApart shapes.new.keys }
+    ensures distinct { AreDistinct shapes.new.keys }
 {
     match shapes.insert_full(shape) {
         Ok((class, _)) => Ok(class),

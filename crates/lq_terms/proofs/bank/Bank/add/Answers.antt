@@ -9,12 +9,12 @@ use Rattle.lq_terms.proofs.Banks.{IsSound-pushed}
 use Rattle.lq_terms.proofs.bank.Bank.add.Goals as goal
 
 pub invariant_of-self : goal.invariant_of-self
-invariant_of-self c = (c.self.invariant.0, AreClassed-wider c.self.inside.shapes.keys _ _ c.class_of.ensures.apart c.class_of.ensures.kept c.self.invariant.1)
+invariant_of-self c = (c.self.invariant.0, AreClassed-wider c.self.inside.shapes.keys _ _ c.class_of.ensures.distinct c.class_of.ensures.kept c.self.invariant.1)
 
 pub invariant_of-self-in_default : goal.invariant_of-self-in_default
 invariant_of-self-in_default c =
     subst (λ (es : List Entry). IsSound (map string_bytes c.self.inside.names.keys) es × AreClassed c.class_of.new.shapes.keys es) (sym c.in_default.ensures.items)
-    (c.self.invariant.0, AreClassed-wider c.self.inside.shapes.keys _ _ c.class_of.ensures.apart c.class_of.ensures.kept c.self.invariant.1)
+    (c.self.invariant.0, AreClassed-wider c.self.inside.shapes.keys _ _ c.class_of.ensures.distinct c.class_of.ensures.kept c.self.invariant.1)
 
 pub invariant_of-self-2 : goal.invariant_of-self-2
 invariant_of-self-2 c =
@@ -22,5 +22,5 @@ invariant_of-self-2 c =
     c.in_ok-class.ensures.stands ∙ ap Some (c.in_ok-shape.ensures ∙ ap (λ (es : List Entry). shape_by (class_at es) c.args.node) c.deref.ensures.value) in (
       IsSound-pushed _ _ _ c.args.self.now _ c.self.view_is c.in-Ok.ensures.items c.self.invariant.0 c.requires c.measure_node-measure.ensures,
       AreClassed-pushed _ c.self.inside.shapes.keys _ _ _ c.args.self.now _ c.self.view_is c.in-Ok.ensures.items c.self.invariant.0 c.requires stands c.len.ensures.len
-          (AreClassed-wider c.self.inside.shapes.keys _ _ c.class_of.ensures.apart c.class_of.ensures.kept c.self.invariant.1),
+          (AreClassed-wider c.self.inside.shapes.keys _ _ c.class_of.ensures.distinct c.class_of.ensures.kept c.self.invariant.1),
     )
