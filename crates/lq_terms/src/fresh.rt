@@ -39,11 +39,7 @@ fn numbered(bank: &mut Bank<'_>, base: NameId, number: usize) -> Result<NameId, 
 }
 
 /// The first of the base, the base with 0 behind it, with 1 and so on that is not taken.
-pub fn fresh_name(
-    bank: &mut Bank<'_>,
-    taken: &[NameId],
-    base: NameId,
-) -> Result<NameId, NoMemory>
+pub fn fresh_name(bank: &mut Bank<'_>, taken: &[NameId], base: NameId) -> Result<NameId, NoMemory>
     requires taken { AllByRecursion (HasName bank.old) taken.now }
     requires base { HasName bank.old base }
     ensures name { IfOk result (λ x. IsName bank.new x (fresh_of (map (text_of bank.old) taken.now) (text_of bank.old base))) }
