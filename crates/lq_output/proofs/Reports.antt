@@ -2,12 +2,12 @@
 use Rattle.std.proofs.Common.{◌≡◌, ◌∙◌, refl, sym, ap, subst, ℕ, ◌+◌, ◌&&◌, Bool, true, false, nat_lt, List, [], ◌∷◌, ◌++◌, length, Option, Some, None, Result, Ok, Err, append_assoc}
 use Rattle.lq_trees.specs.Tree.{Name, Tree}
 use Rattle.lq_trees.specs.declared.Sort.{Sort as Universe}
-use Rattle.lq_trees.specs.Ticks.{gives, fails, cut, tick}
 use Rattle.lq_calculus.specs.Declarations.{Env, Entry, constant, lookup, first_taken, names_of}
 use Rattle.lq_calculus.specs.Typing.{DerivedEnv, no_entry}
-use Rattle.lq_calculus.specs.Checking.{Kernel, known, sort_of, check, no_env_fault, declare_constant}
+use Rattle.lq_calculus.specs.Checking.{known, sort_of, check, no_env_fault, declare_constant}
 use Rattle.lq_calculus.proofs.ConvSound.{Gives, gives_bind}
 use Rattle.lq_calculus.proofs.DeclareSound.{constant_derived}
+use Rattle.lq_output.proofs.Derived.{comes_gives}
 use Rattle.lq_output.specs.declared.Status.{Status}
 use Rattle.lq_output.specs.Script.{cut as cut_script}
 use Rattle.lq_output.specs.Grammar.{Surface, Sentence, theorem, proof, tactics, qed, read}
@@ -15,14 +15,6 @@ use Rattle.lq_output.specs.Steps.{Proof, goal, finished, after_tactics, resolved
 use Rattle.lq_output.specs.Faults.{Fault, not_built}
 use Rattle.lq_output.specs.Sentences.{Place, outside, stated, begun, worked, State, comes_to, with_sort, with_tree, stating, proving, defined, declared, closing_proof, doing, sentence}
 use Rattle.lq_output.specs.Output.{Output, refused, behind, all_blank, is_outside, at_end, run, start, most_bytes, too_long, output, reached, declarations, reports, IsLastLine, no_line, fault_line, long_line, HasDerivations}
-
--- work that comes to an answer gives it
-pub comes_gives : {A : Type 0} (r : Kernel A) (a : A) → comes_to r ≡ Ok a → Gives r a
-unfolding comes_to
-comes_gives (gives b) a e = cc
-comes_gives (fails f) a e = absurd cc
-comes_gives cut a e = absurd cc
-comes_gives (tick r) a e = comes_gives r a e
 
 pub reports-append : (a b : Env) → reports (a ++ b) ≡ reports a ++ reports b
 unfolding reports

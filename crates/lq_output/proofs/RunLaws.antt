@@ -1,6 +1,5 @@
 -- A run, sentence by sentence from the front of the script.
-use Rattle.std.proofs.Common.{◌≡◌, ◌∙◌, refl, sym, ap, ℕ, ◌+◌, ◌≤◌, max, nat_lt, false, List, [], ◌∷◌, ◌++◌, length, drop, Result, Ok, Err, append_assoc, arith}
-use Rattle.lq_output.specs.declared.Status.{Status}
+use Rattle.std.proofs.Common.{◌≡◌, ◌∙◌, refl, sym, ap, ℕ, ◌+◌, max, nat_lt, false, List, [], ◌∷◌, ◌++◌, length, drop, Result, Ok, Err, append_assoc, arith}
 use Rattle.lq_output.specs.Script.{Script, cut}
 use Rattle.lq_output.specs.Faults.{Fault}
 use Rattle.lq_output.specs.Sentences.{State, sentence}

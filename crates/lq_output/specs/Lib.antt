@@ -1,9 +1,12 @@
 pub mod Script
 pub mod Tokens
 pub mod Grammar
+pub mod Nesting
 pub mod Alike
 pub mod Steps
 pub mod Printing
 pub mod Faults
 pub mod Sentences
 pub mod Output
+pub mod Names
+pub mod Joined

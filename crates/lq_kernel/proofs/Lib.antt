@@ -1,0 +1,12 @@
+pub mod EndLaws
+pub mod PlainTrees
+pub mod Comparing
+pub mod Inferring
+pub mod Grown
+pub mod Constants
+pub mod Sorts
+pub mod Lookups
+pub mod Typed
+pub mod Cycle
+pub mod Calls
+pub mod Building
