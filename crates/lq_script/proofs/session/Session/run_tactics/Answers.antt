@@ -1,0 +1,7 @@
+use Rattle.std.proofs.Common.{refl}
+use Rattle.lq_script.proofs.Moving.{IsSession-grown}
+use Rattle.lq_script.proofs.session.Session.run_tactics.Goals as goal
+
+pub returns-in-Err-clause-keeps : goal.returns-in-Err-clause-keeps
+returns-in-Err-clause-keeps c =
+    IsSession-grown c.args.self.now.bank c.work.new.bank c.in-Err.ensures.grows c.args.self.now.env c.args.self.now.env c.args.self.now.place refl c.requires.session
