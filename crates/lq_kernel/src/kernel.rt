@@ -13,7 +13,7 @@ ghost use Rattle.lq_kernel.specs.Declaring.{IsPlainDeclaration, entry_by, declar
 use crate::environment::{Constant, Env};
 use crate::faults::{EnvFault, KernelFault};
 use crate::looking::known;
-use crate::typing::{check_in, sort_in, type_of};
+use crate::typing::{has_sort, has_type, type_of};
 use lq_terms::{Bank, Context, NameId, TermId};
 
 /// What may be declared.
@@ -76,7 +76,7 @@ pub fn check(
     known(bank, context.hypotheses(), term)?;
     known(bank, context.hypotheses(), wanted)?;
     let mut hypotheses = Vec::from_slice(bank.allocator(), context.hypotheses())?;
-    check_in(bank, env, &mut hypotheses, term, wanted)
+    has_type(bank, env, &mut hypotheses, term, wanted)
 }
 
 /// Declares a constant, if its name is new, its type has a sort and its body has that type. After a
@@ -154,6 +154,6 @@ fn check_constant(
     known(bank, &[], kind)?;
     known(bank, &[], body)?;
     let mut hypotheses = Vec::new(bank.allocator());
-    sort_in(bank, env, &mut hypotheses, kind)?;
-    check_in(bank, env, &mut hypotheses, body, kind)
+    has_sort(bank, env, &mut hypotheses, kind)?;
+    has_type(bank, env, &mut hypotheses, body, kind)
 }

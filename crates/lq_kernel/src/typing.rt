@@ -299,3 +299,54 @@ pub(crate) fn check_in(
         Err(KernelFault::Mismatch(found, wanted))
     }
 }
+
+/// The sort of a term under hypotheses. Where it has one, the terms that were made to find it are
+/// dropped.
+pub(crate) fn has_sort(
+    bank: &mut Bank<'_>,
+    env: &Env,
+    hypotheses: &mut Vec<Hypothesis>,
+    term: TermId,
+) -> Result<Sort, KernelFault>
+    requires term { IsPlainTerm bank.old 0 term }
+    requires env { IsPlainEnv bank.old env.now }
+    requires context { IsPlainContext bank.old hypotheses.old.items }
+    ensures answer { Sorts bank.new result (λ n. sort_of (env_of bank.old env.now) n (context_of bank.old hypotheses.old.items) (tree_of bank.old term)) }
+    ensures grows { Grows bank.old bank.new }
+    ensures kept { hypotheses.new.items ≡ hypotheses.old.items }
+{
+    let mark = bank.mark();
+    match sort_in(bank, env, hypotheses, term) {
+        Ok(sort) => {
+            bank.undo(mark);
+            Ok(sort)
+        }
+        Err(fault) => Err(fault),
+    }
+}
+
+/// Whether a term has a type. Where it has, the terms that were made to find out are dropped.
+pub(crate) fn has_type(
+    bank: &mut Bank<'_>,
+    env: &Env,
+    hypotheses: &mut Vec<Hypothesis>,
+    term: TermId,
+    wanted: TermId,
+) -> Result<(), KernelFault>
+    requires term { IsPlainTerm bank.old 0 term }
+    requires wanted { IsPlainTerm bank.old 0 wanted }
+    requires env { IsPlainEnv bank.old env.now }
+    requires context { IsPlainContext bank.old hypotheses.old.items }
+    ensures answer { Checks bank.new result (λ n. check (env_of bank.old env.now) n (context_of bank.old hypotheses.old.items) (tree_of bank.old term) (tree_of bank.old wanted)) }
+    ensures grows { Grows bank.old bank.new }
+    ensures kept { hypotheses.new.items ≡ hypotheses.old.items }
+{
+    let mark = bank.mark();
+    match check_in(bank, env, hypotheses, term, wanted) {
+        Ok(()) => {
+            bank.undo(mark);
+            Ok(())
+        }
+        Err(fault) => Err(fault),
+    }
+}

@@ -49,7 +49,7 @@ fn told(fault: KernelFault) -> SentenceFault
 }
 
 /// Whether a statement has a sort.
-fn check_sort(bank: &mut Bank<'_>, env: &Env, statement: TermId) -> Result<(), SentenceFault>
+fn find_sort(bank: &mut Bank<'_>, env: &Env, statement: TermId) -> Result<(), SentenceFault>
     requires env { IsPlainEnv bank.old env.now }
     requires statement { IsStatement bank.old statement }
     ensures answer { HasSort bank.new result (λ n. comes_to (sort_of (env_of bank.old env.now) n [] (tree_of bank.old statement))) }
@@ -62,6 +62,23 @@ fn check_sort(bank: &mut Bank<'_>, env: &Env, statement: TermId) -> Result<(), S
             _ => Err(SentenceFault::NotBuilt),
         },
         Err(refusal) => Err(told(refusal)),
+    }
+}
+
+/// Whether a statement has a sort. Where it has, the terms that were made to find out are dropped.
+fn check_sort(bank: &mut Bank<'_>, env: &Env, statement: TermId) -> Result<(), SentenceFault>
+    requires env { IsPlainEnv bank.old env.now }
+    requires statement { IsStatement bank.old statement }
+    ensures answer { HasSort bank.new result (λ n. comes_to (sort_of (env_of bank.old env.now) n [] (tree_of bank.old statement))) }
+    ensures grows { Grows bank.old bank.new }
+{
+    let mark = bank.mark();
+    match find_sort(bank, env, statement) {
+        Ok(()) => {
+            bank.undo(mark);
+            Ok(())
+        }
+        Err(fault) => Err(fault),
     }
 }
 

@@ -23,14 +23,14 @@ returns-in_err-known-2-clause-answer c =
 
 pub returns-clause-answer : goal.returns-clause-answer
 returns-clause-answer c =
-    checks_type (env_of c.args.bank.now c.args.env.now) (context_of c.args.bank.now c.args.context.now) (tree_of c.args.bank.now c.args.term) (tree_of c.args.bank.now c.args.wanted) c.args.bank.now c.check_in.new.bank c.check_in.result
+    checks_type (env_of c.args.bank.now c.args.env.now) (context_of c.args.bank.now c.args.context.now) (tree_of c.args.bank.now c.args.term) (tree_of c.args.bank.now c.args.wanted) c.args.bank.now c.has_type.new.bank c.has_type.result
     (subst (λ hs. Knows c.args.bank.now (Ok tt) (map (λ h. h.name) (context_of c.args.bank.now hs)) (tree_of c.args.bank.now c.args.term)) c.hypotheses.ensures c.in_ok-known.ensures)
     (subst (λ hs. Knows c.args.bank.now (Ok tt) (map (λ h. h.name) (context_of c.args.bank.now hs)) (tree_of c.args.bank.now c.args.wanted)) c.hypotheses-2.ensures c.in_ok-known-2.ensures)
-    (subst (λ hs. Checks c.check_in.new.bank c.check_in.result (λ n. check (env_of c.args.bank.now c.args.env.now) n (context_of c.args.bank.now hs) (tree_of c.args.bank.now c.args.term) (tree_of c.args.bank.now c.args.wanted)))
-    (c.in_ok-hypotheses.ensures.items ∙ c.hypotheses-3.ensures) c.check_in.ensures.answer)
+    (subst (λ hs. Checks c.has_type.new.bank c.has_type.result (λ n. check (env_of c.args.bank.now c.args.env.now) n (context_of c.args.bank.now hs) (tree_of c.args.bank.now c.args.term) (tree_of c.args.bank.now c.args.wanted)))
+    (c.in_ok-hypotheses.ensures.items ∙ c.hypotheses-3.ensures) c.has_type.ensures.answer)
 
 pub returns-clause-derives : goal.returns-clause-derives
 returns-clause-derives c =
-    check_derived (env_of c.args.bank.now c.args.env.now) (context_of c.args.bank.now c.args.context.now) (tree_of c.args.bank.now c.args.term) (tree_of c.args.bank.now c.args.wanted) c.check_in.new.bank c.check_in.result
-    (subst (λ hs. Checks c.check_in.new.bank c.check_in.result (λ n. check (env_of c.args.bank.now c.args.env.now) n (context_of c.args.bank.now hs) (tree_of c.args.bank.now c.args.term) (tree_of c.args.bank.now c.args.wanted)))
-    (c.in_ok-hypotheses.ensures.items ∙ c.hypotheses-3.ensures) c.check_in.ensures.answer)
+    check_derived (env_of c.args.bank.now c.args.env.now) (context_of c.args.bank.now c.args.context.now) (tree_of c.args.bank.now c.args.term) (tree_of c.args.bank.now c.args.wanted) c.has_type.new.bank c.has_type.result
+    (subst (λ hs. Checks c.has_type.new.bank c.has_type.result (λ n. check (env_of c.args.bank.now c.args.env.now) n (context_of c.args.bank.now hs) (tree_of c.args.bank.now c.args.term) (tree_of c.args.bank.now c.args.wanted)))
+    (c.in_ok-hypotheses.ensures.items ∙ c.hypotheses-3.ensures) c.has_type.ensures.answer)

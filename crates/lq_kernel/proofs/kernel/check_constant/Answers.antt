@@ -27,23 +27,23 @@ returns-in_err-known-2-clause-answer c =
     (taken_is c.args.bank.now c.args.name c.args.env.now c.lookup.result c.is_some.result false c.text-text.ensures.apart c.requires.env c.lookup.ensures c.is_some.ensures c.if-is_some.false) c.args.bank.now
     c.from_residual-in_err-known-2.result c.in_err-known-2.field-0.0 c.from_residual-in_err-known-2.ensures.1 c.in_ok-known.ensures c.in_err-known-2.ensures
 
-pub returns-in_err-sort_in-clause-answer : goal.returns-in_err-sort_in-clause-answer
-returns-in_err-sort_in-clause-answer c =
+pub returns-in_err-has_sort-clause-answer : goal.returns-in_err-has_sort-clause-answer
+returns-in_err-has_sort-clause-answer c =
     accepts_sort (env_of c.args.bank.now c.args.env.now) (text_of c.args.bank.now c.args.name) (tree_of c.args.bank.now c.args.kind) (tree_of c.args.bank.now c.args.body)
-    (taken_is c.args.bank.now c.args.name c.args.env.now c.lookup.result c.is_some.result false c.text-text.ensures.apart c.requires.env c.lookup.ensures c.is_some.ensures c.if-is_some.false) c.args.bank.now c.sort_in.new.bank
-    c.from_residual-in_err-sort_in.result c.in_err-sort_in.field-0.0 c.from_residual-in_err-sort_in.ensures.1 c.in_ok-known.ensures c.in_ok-known-2.ensures
-    (subst (λ hs. Refuses c.sort_in.new.bank c.in_err-sort_in.field-0.0 (λ n. sort_of (env_of c.args.bank.now c.args.env.now) n (context_of c.args.bank.now hs) (tree_of c.args.bank.now c.args.kind))) c.new-hypotheses.ensures.items
-    c.in_err-sort_in.ensures.answer)
+    (taken_is c.args.bank.now c.args.name c.args.env.now c.lookup.result c.is_some.result false c.text-text.ensures.apart c.requires.env c.lookup.ensures c.is_some.ensures c.if-is_some.false) c.args.bank.now c.has_sort.new.bank
+    c.from_residual-in_err-has_sort.result c.in_err-has_sort.field-0.0 c.from_residual-in_err-has_sort.ensures.1 c.in_ok-known.ensures c.in_ok-known-2.ensures
+    (subst (λ hs. Refuses c.has_sort.new.bank c.in_err-has_sort.field-0.0 (λ n. sort_of (env_of c.args.bank.now c.args.env.now) n (context_of c.args.bank.now hs) (tree_of c.args.bank.now c.args.kind))) c.new-hypotheses.ensures.items
+    c.in_err-has_sort.ensures.answer)
 
-pub check_in-requires-clause-env : goal.check_in-requires-clause-env
-check_in-requires-clause-env c = IsPlainEnv-grown c.args.bank.now c.sort_in.new.bank c.in_ok-sort_in.ensures.grows c.args.env.now c.requires.env
+pub has_type-requires-clause-env : goal.has_type-requires-clause-env
+has_type-requires-clause-env c = IsPlainEnv-grown c.args.bank.now c.has_sort.new.bank c.in_ok-has_sort.ensures.grows c.args.env.now c.requires.env
 
 pub returns-clause-answer : goal.returns-clause-answer
 returns-clause-answer c =
     accepts_check (env_of c.args.bank.now c.args.env.now) (text_of c.args.bank.now c.args.name) (tree_of c.args.bank.now c.args.kind) (tree_of c.args.bank.now c.args.body)
-    (taken_is c.args.bank.now c.args.name c.args.env.now c.lookup.result c.is_some.result false c.text-text.ensures.apart c.requires.env c.lookup.ensures c.is_some.ensures c.if-is_some.false) c.args.bank.now c.check_in.new.bank
-    c.in_ok-sort_in.field-0 c.check_in.result c.in_ok-known.ensures c.in_ok-known-2.ensures
-    (subst (λ hs. EndsAs (λ n. sort_of (env_of c.args.bank.now c.args.env.now) n (context_of c.args.bank.now hs) (tree_of c.args.bank.now c.args.kind)) (Ok c.in_ok-sort_in.field-0)) c.new-hypotheses.ensures.items
-    c.in_ok-sort_in.ensures.answer)
-    (moved c.args.bank.now c.sort_in.new.bank c.args.env.now [] c.sort_in.new.hypotheses.items c.args.name c.args.kind c.args.body c.in_ok-sort_in.ensures.grows c.requires.env tt
-    (c.in_ok-sort_in.ensures.kept ∙ c.new-hypotheses.ensures.items) c.requires.name c.requires.kind.has c.requires.body.has (λ E G x A t. Checks c.check_in.new.bank c.check_in.result (λ n. check E n G t A)) c.check_in.ensures.answer)
+    (taken_is c.args.bank.now c.args.name c.args.env.now c.lookup.result c.is_some.result false c.text-text.ensures.apart c.requires.env c.lookup.ensures c.is_some.ensures c.if-is_some.false) c.args.bank.now c.has_type.new.bank
+    c.in_ok-has_sort.field-0 c.has_type.result c.in_ok-known.ensures c.in_ok-known-2.ensures
+    (subst (λ hs. EndsAs (λ n. sort_of (env_of c.args.bank.now c.args.env.now) n (context_of c.args.bank.now hs) (tree_of c.args.bank.now c.args.kind)) (Ok c.in_ok-has_sort.field-0)) c.new-hypotheses.ensures.items
+    c.in_ok-has_sort.ensures.answer)
+    (moved c.args.bank.now c.has_sort.new.bank c.args.env.now [] c.has_sort.new.hypotheses.items c.args.name c.args.kind c.args.body c.in_ok-has_sort.ensures.grows c.requires.env tt
+    (c.in_ok-has_sort.ensures.kept ∙ c.new-hypotheses.ensures.items) c.requires.name c.requires.kind.has c.requires.body.has (λ E G x A t. Checks c.has_type.new.bank c.has_type.result (λ n. check E n G t A)) c.has_type.ensures.answer)

@@ -7,7 +7,7 @@ use Rattle.lq_script.specs.Sessions.{Comes}
 use Rattle.lq_script.specs.Proofs.{Tells}
 use Rattle.lq_script.proofs.Telling.{sort_found, sort_missing, sort_refused, in_no_context, refused_in_no_context, no_sort_node}
 use Rattle.lq_script.proofs.Statements.{statement_plain}
-use Rattle.lq_script.proofs.session.check_sort.Goals as goal
+use Rattle.lq_script.proofs.session.find_sort.Goals as goal
 
 pub infer-requires-clause-term : goal.infer-requires-clause-term
 infer-requires-clause-term c = statement_plain c.args.bank.now c.args.statement c.requires.statement
