@@ -8,7 +8,8 @@ use Rattle.lq_trees.specs.Same.{Same, nameless}
 use Rattle.lq_trees.specs.Size.{size}
 use Rattle.lq_trees.proofs.Sizes.{one-le-size}
 use Rattle.lq_trees.specs.Ticks.{Paid, gives, fails, cut, tick, ◌>>=◌}
-use Rattle.lq_calculus.specs.Contraction.{Rules, spine, whnf}
+use Rattle.lq_trees.specs.Rules.{Rules}
+use Rattle.lq_calculus.specs.Contraction.{spine, whnf}
 use Rattle.lq_calculus.specs.Checking.{same_sort, nothing_if, argument_pairs, head_pairs, pairs, all_compare, compare_left, conv}
 use Rattle.lq_calculus.proofs.ConvSound.{same_sort_is, same_name_is}
 use Rattle.lq_kernel.specs.Endings.{ending}

@@ -9,7 +9,8 @@ use Rattle.lq_terms.specs.declared.nodes.TermId.{TermId}
 use Rattle.lq_terms.specs.declared.nodes.Hypothesis.{Hypothesis}
 use Rattle.lq_terms.specs.Terms.{Terms, HasName, HasTerm, IsTerm, IsName, Grows, text_of, tree_of}
 use Rattle.lq_terms.specs.Contexts.{hypothesis_of, context_of, HasAllOf, HasBody, HasContext}
-use Rattle.lq_calculus.specs.Contraction.{Rules, contract, hypothesis}
+use Rattle.lq_trees.specs.Rules.{Rules}
+use Rattle.lq_calculus.specs.Contraction.{contract, hypothesis}
 use Rattle.lq_calculus.specs.Declarations.{Env as Environment, Entry, constant, lookup, delta_in, rules_of}
 use Rattle.lq_calculus.specs.Checking.{KernelFault as Fault, Kernel, unbound, not_a_sort, mismatch, env_fault}
 use Rattle.lq_calculus.specs.Declarations.{name_taken}

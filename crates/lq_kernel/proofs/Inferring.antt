@@ -10,7 +10,8 @@ use Rattle.lq_trees.specs.Size.{size, fit}
 use Rattle.lq_trees.specs.Fresh.{fresh, opened, under}
 use Rattle.lq_trees.specs.Ticks.{Paid, gives, fails, cut, tick, ◌>>=◌}
 use Rattle.lq_trees.proofs.TickLaws.{bind_bind}
-use Rattle.lq_calculus.specs.Contraction.{Rules, hypothesis, whnf}
+use Rattle.lq_trees.specs.Rules.{Rules}
+use Rattle.lq_calculus.specs.Contraction.{hypothesis, whnf}
 use Rattle.lq_calculus.specs.Declarations.{Env as Environment, Entry, lookup, constant, rules_of}
 use Rattle.lq_calculus.specs.Typing.{product_sort}
 use Rattle.lq_calculus.specs.Checking.{KernelFault as Fault, Kernel, unbound, not_a_sort, mismatch, no_sort_above, type_too_large, type_too_deep, fitting, as_sort, needed_form, matching, conv, sort_above, constant_kind, infer, sort_of, check}

@@ -9,7 +9,8 @@ use Rattle.lq_trees.specs.Size.{size, sizes, depth, deepest, fit, fit_of}
 use Rattle.lq_trees.specs.Index.{Within, IndexFits, last_index}
 use Rattle.lq_trees.specs.Fresh.{opened, under}
 use Rattle.lq_trees.proofs.Reach.{within-subst, within-close, within_fits}
-use Rattle.lq_calculus.specs.Contraction.{Rules, contract, hypothesis, head_form, whnf}
+use Rattle.lq_trees.specs.Rules.{Rules}
+use Rattle.lq_calculus.specs.Contraction.{contract, hypothesis, head_form, whnf}
 use Rattle.lq_trees.specs.Ticks.{Paid, gives}
 use Rattle.lq_kernel.specs.Plain.{IsPlain}
 

@@ -10,7 +10,8 @@ use Rattle.lq_trees.specs.Tree.Tree.{Rel, Var, Sort, Prod, Lam, Let, App, Const,
 use Rattle.lq_trees.specs.Change.{Leaves, replace, substituting, lift, close, closing}
 use Rattle.lq_trees.specs.Fresh.{is_listed, fresh, opened, under}
 use Rattle.lq_trees.specs.Ticks.{gives, fails, tick, ◌>>=◌}
-use Rattle.lq_calculus.specs.Contraction.{Rules, whnf}
+use Rattle.lq_trees.specs.Rules.{Rules}
+use Rattle.lq_calculus.specs.Contraction.{whnf}
 use Rattle.lq_calculus.specs.Declarations.{Env, Entry, Family, constant, family, arity, constructor, eliminator, lookup, names_of, delta_in, family_in, counts_of, rule_arguments, rules_of}
 use Rattle.lq_calculus.specs.Typing.{product_sort}
 use Rattle.lq_calculus.specs.Checking.{Kernel, fitting, as_sort, needed_form, constant_kind, infer, conv, mismatch, matching, sort_of, check}

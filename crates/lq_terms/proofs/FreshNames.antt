@@ -1,16 +1,16 @@
 -- The look for a name that is not taken, and the names of a context.
-use Rattle.std.proofs.Common.{◌≡◌, ◌∙◌, ℕ, zero, suc, ◌+◌, ◌-◌, ◌<◌, List, [], ◌∷◌, ◌++◌, map, ◌≤◌, length, get_or, drop, refl, sym, ap, subst, Bool, true, false, ◌||◌, arith}
+use Rattle.std.proofs.Common.{◌≡◌, ◌∙◌, ℕ, suc, ◌+◌, ◌-◌, ◌<◌, List, [], ◌∷◌, ◌++◌, map, ◌≤◌, length, get_or, drop, refl, sym, ap, subst, Bool, true, false, ◌||◌, arith}
 use Rattle.std.specs.Prelude.{decimal, codes, Result, Ok, Err, IfOk}
 use Rattle.lq_terms.specs.declared.nodes.NoMemory.{NoMemory}
 use Rattle.std.specs.List.{AllByRecursion}
 use Rattle.std.proofs.lemmas.List.{drop_more, drop_all, length-map}
 use Rattle.lq_terms.proofs.Growth.{Grows-trans}
-use Rattle.lq_trees.specs.Tree.{Name, Tree, Context, same_name}
+use Rattle.lq_trees.specs.Tree.{Name, Context, same_name}
 use Rattle.lq_trees.specs.Fresh.{is_listed, fresh_from, fresh_of, fresh}
 use Rattle.lq_terms.specs.declared.nodes.Hypothesis.{Hypothesis}
 use Rattle.lq_terms.specs.declared.nodes.NameId.{NameId}
 use Rattle.lq_terms.specs.Terms.{Terms, HasName, IsName, Grows, text_of}
-use Rattle.lq_terms.specs.Contexts.{hypothesis_of, context_of, HasAllOf, HasContext}
+use Rattle.lq_terms.specs.Contexts.{context_of, HasContext}
 
 -- the names from an index on: the one there, or one of those behind it
 pub listed_next :
