@@ -1,0 +1,4 @@
+pub mod Cells
+pub mod Tokens
+pub mod Selectors
+pub mod Cutting
