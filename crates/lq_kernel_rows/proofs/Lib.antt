@@ -1,2 +1,1 @@
 pub mod PlainRows
-pub mod Chains

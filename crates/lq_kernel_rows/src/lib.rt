@@ -1,7 +1,5 @@
-//! Rows of tests over the bank of terms and the kernel.
+//! Rows of tests over the kernel.
 #![tactic(auto)]
 
 #[cfg(test)]
 mod kernel;
-#[cfg(test)]
-mod terms;

@@ -1,6 +1,6 @@
 use Rattle.lq_terms.proofs.Growth.{Grows-trans}
-use Rattle.lq_kernel_rows.proofs.Chains.{few-grown, put_fits}
-use Rattle.lq_kernel_rows.proofs.terms.chain_put_in.Goals as goal
+use Rattle.lq_terms_rows.proofs.Chains.{few-grown, put_fits}
+use Rattle.lq_terms_rows.proofs.terms.chain_put_in.Goals as goal
 
 pub subst-requires-clause-index : goal.subst-requires-clause-index
 subst-requires-clause-index c =

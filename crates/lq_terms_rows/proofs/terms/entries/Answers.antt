@@ -1,7 +1,7 @@
 use Rattle.lq_trees.specs.Tree.{Tree}
 use Rattle.lq_terms.specs.Terms.{tree_of, trees_by}
-use Rattle.lq_kernel_rows.proofs.Chains.{has_pushed, few_pushed, few_ok}
-use Rattle.lq_kernel_rows.proofs.terms.entries.Goals as goal
+use Rattle.lq_terms_rows.proofs.Chains.{has_pushed, few_pushed, few_ok}
+use Rattle.lq_terms_rows.proofs.terms.entries.Goals as goal
 
 pub loop-preserved : goal.loop-preserved
 loop-preserved c = record {

@@ -1,8 +1,8 @@
 use Rattle.lq_trees.specs.Tree.{Tree}
 use Rattle.lq_terms.specs.Terms.{tree_of}
 use Rattle.lq_terms.proofs.Growth.{Grows-trans}
-use Rattle.lq_kernel_rows.proofs.Chains.{few_is}
-use Rattle.lq_kernel_rows.proofs.terms.doubled.Goals as goal
+use Rattle.lq_terms_rows.proofs.Chains.{few_is}
+use Rattle.lq_terms_rows.proofs.terms.doubled.Goals as goal
 
 pub loop-preserved : goal.loop-preserved
 loop-preserved c = record {

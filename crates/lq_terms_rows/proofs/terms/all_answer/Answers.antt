@@ -1,8 +1,8 @@
 use Rattle.std.proofs.Common.{◌∙◌, ◌∷◌, [], ◌++◌, ap, None}
 use Rattle.lq_terms.specs.Terms.{text_of, Grows}
 use Rattle.lq_terms.proofs.Growth.{Grows-trans}
-use Rattle.lq_kernel_rows.proofs.Chains.{lift_fits, subst_fits, close_fits, instance_fits}
-use Rattle.lq_kernel_rows.proofs.terms.all_answer.Goals as goal
+use Rattle.lq_terms_rows.proofs.Chains.{lift_fits, subst_fits, close_fits, instance_fits}
+use Rattle.lq_terms_rows.proofs.terms.all_answer.Goals as goal
 
 pub lift-requires-clause-index : goal.lift-requires-clause-index
 lift-requires-clause-index c = lift_fits c.args.bank.now c.args.term c.requires.few

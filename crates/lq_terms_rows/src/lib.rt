@@ -1,0 +1,5 @@
+//! Rows of tests over the bank of terms.
+#![tactic(auto)]
+
+#[cfg(test)]
+mod terms;
