@@ -41,7 +41,7 @@ unfolding cells_from
 cells_broken at [] some e = absurd (omega arith)
 cells_broken at (b ∷ bs) some e = by_none (decoded (b ∷ bs)).char at _ e
 
-cells_over : (at : ℕ) (bs : List ℕ) → length bs ≡ 0 → cells at bs ≡ over at
+pub cells_over : (at : ℕ) (bs : List ℕ) → length bs ≡ 0 → cells at bs ≡ over at
 unfolding cells_from
 cells_over at [] e = refl
 cells_over at (b ∷ bs) e = absurd (omega arith)

@@ -1,5 +1,10 @@
 //! Why a text has no next sentence.
 
+ghost use Rattle.std.specs.Prelude.{◌≡◌};
+ghost use Rattle.lq_grammar.specs.declared.fault.LexFault.TheVariants.{NoMemory};
+
+use std::alloc::{AllocError, AllocFailed};
+
 /// A fault of the text, with its place in bytes from the start of the text, or want of memory.
 #[derive(Clone, Copy, Debug, PartialEq, Eq)]
 pub enum LexFault {
@@ -13,4 +18,20 @@ pub enum LexFault {
     BadNumber(usize),
     /// There was no memory for the tokens.
     NoMemory,
+}
+
+impl From<AllocError> for LexFault {
+    ghost from_gives = { λ _ fault. fault ≡ NoMemory };
+
+    fn from(_: AllocError) -> LexFault {
+        LexFault::NoMemory
+    }
+}
+
+impl<T: Drop> From<AllocFailed<T>> for LexFault {
+    ghost from_gives = { λ _ fault. fault ≡ NoMemory };
+
+    fn from(_: AllocFailed<T>) -> LexFault {
+        LexFault::NoMemory
+    }
 }

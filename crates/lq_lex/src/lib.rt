@@ -1,0 +1,19 @@
+//! The tokens of a script and the ends of its sentences.
+#![tactic(auto)]
+
+mod characters;
+mod classes;
+mod comments;
+mod cutting;
+mod found;
+mod numbers;
+mod piece;
+mod runs;
+mod selectors;
+mod strings;
+mod symbols;
+mod view;
+
+pub use cutting::cut;
+pub use lq_grammar::{LexFault, Symbol, Token, TokenKind};
+pub use piece::{Piece, Tokens};
