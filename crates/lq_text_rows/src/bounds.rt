@@ -17,11 +17,7 @@ fn an_end_at_the_bound(rt: HostRuntime) -> Result<(), Fail> {
     let followed = filled(alloc, b"Check Prop", b' ', 65_525, b".\n")?;
     gives(&rt, alloc, &followed, 0, &tokens, 65_536)?;
     let inside = filled(alloc, b"Check Prop", b' ', 65_525, b".x")?;
-    let dotted = [
-        name(0, 5),
-        name(6, 10),
-        symbol(Symbol::Dot, 65_535, 65_536),
-    ];
+    let dotted = [name(0, 5), name(6, 10), symbol(Symbol::Dot, 65_535, 65_536)];
     gives(&rt, alloc, &inside, 0, &dotted, 65_536)?;
     let long = filled(alloc, b"Check Prop", b' ', 65_526, b".")?;
     gives(&rt, alloc, &long, 0, &[name(0, 5), name(6, 10)], 10)?;

@@ -22,11 +22,7 @@ fn pairs(alloc: Global, first: u8, second: u8) -> Result<Vec<u8>, AllocError> {
 fn names_and_numbers_at_their_limits(rt: HostRuntime) -> Result<(), Fail> {
     let alloc = rt.alloc();
     let long = filled(alloc, b"Check ", b'a', 255, b".")?;
-    let words = [
-        name(0, 5),
-        name(6, 261),
-        symbol(Symbol::Stop, 261, 262),
-    ];
+    let words = [name(0, 5), name(6, 261), symbol(Symbol::Stop, 261, 262)];
     gives(&rt, alloc, &long, 0, &words, 262)?;
     let longer = filled(alloc, b"Check ", b'a', 256, b".")?;
     assert_eq!(rt; fault(alloc, &longer), Some(LexFault::BadChar(6)));
@@ -90,6 +86,9 @@ fn dots_all_over(rt: HostRuntime) -> Result<(), Fail> {
     };
     assert_eq!(rt; end, 65_536);
     assert_eq!(rt; tokens.as_slice().len(), 32_768);
-    assert_eq!(rt; tokens.as_slice().last().copied(), Some(symbol(Symbol::Dots, 65_534, 65_536)));
+    assert_eq!(rt;
+        tokens.as_slice().last().copied(),
+        Some(symbol(Symbol::Dots, 65_534, 65_536))
+    );
     Ok(())
 }

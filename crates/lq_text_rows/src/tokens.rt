@@ -41,7 +41,14 @@ fn tokens_of_each_kind(rt: HostRuntime) -> Result<(), Fail> {
         name(10, 16),
         symbol(Symbol::Stop, 16, 17),
     ];
-    gives(&rt, alloc, "Prop x' _ _\u{e9}\u{4e2d}.".as_bytes(), 0, &words, 17)?;
+    gives(
+        &rt,
+        alloc,
+        "Prop x' _ _\u{e9}\u{4e2d}.".as_bytes(),
+        0,
+        &words,
+        17,
+    )?;
     let texts = [
         name(0, 5),
         string(6, 17),
@@ -70,8 +77,22 @@ fn bullets_and_braces(rt: HostRuntime) -> Result<(), Fail> {
     let alloc = rt.alloc();
     gives(&rt, alloc, b"-- a.", 0, &[bullet(b'-', 2, 0, 2)], 2)?;
     gives(&rt, alloc, b" *****", 0, &[bullet(b'*', 5, 1, 6)], 6)?;
-    gives(&rt, alloc, b"{ a.", 0, &[symbol(Symbol::OpenCurly, 0, 1)], 1)?;
-    gives(&rt, alloc, b"} a.", 0, &[symbol(Symbol::CloseCurly, 0, 1)], 1)?;
+    gives(
+        &rt,
+        alloc,
+        b"{ a.",
+        0,
+        &[symbol(Symbol::OpenCurly, 0, 1)],
+        1,
+    )?;
+    gives(
+        &rt,
+        alloc,
+        b"} a.",
+        0,
+        &[symbol(Symbol::CloseCurly, 0, 1)],
+        1,
+    )?;
     let named = [
         symbol(Symbol::OpenSquare, 0, 1),
         name(1, 2),
