@@ -52,7 +52,7 @@ unfolding place
 place_by None at rest = refl
 place_by (Some d) at rest = refl
 
-place-cells : (at : ℕ) (bs : List ℕ) → place (cells at bs) ≡ at
+pub place-cells : (at : ℕ) (bs : List ℕ) → place (cells at bs) ≡ at
 unfolding cells_from place
 place-cells at [] = refl
 place-cells at (b ∷ bs) = place_by (decoded (b ∷ bs)).char at _
@@ -161,7 +161,7 @@ unfolding view
 view_whole limit text at h within = whole limit 0 at (drop at text) (omega (arith, length-drop at text))
 
 -- the place at the front of a view
-place_window : (limit : ℕ) (cs : Cells) → place (window limit cs) ≡ place cs
+pub place_window : (limit : ℕ) (cs : Cells) → place (window limit cs) ≡ place cs
 unfolding window place
 place_window limit (over p) = refl
 place_window limit (broken p) = kept (nat_lt p limit) where

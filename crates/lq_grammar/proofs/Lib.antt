@@ -1,4 +1,5 @@
 pub mod Computing
 mod Rows
 pub mod CellLaws
-mod Turns
+pub mod Turns
+pub mod SpanLaws

@@ -115,11 +115,11 @@ symbol_shrinks p c cs = step (pair_of c (front cs)) (single_of (is_clear cs) c) 
   step None None = tt
 
 -- a number begins with a digit
-abbrev IsNumber : Class → Type 0
+abbrev pub IsNumber : Class → Type 0
 IsNumber class.Number = Unit {0}
 IsNumber _ = ⊥
 
-class_by : (blank comment bullet text digit low continued starts : Bool) → Class
+unfoldable pub class_by : (blank comment bullet text digit low continued starts : Bool) → Class
 class_by blank comment bullet text digit low continued starts =
     if blank then class.Blank
     else if comment then class.Comment
@@ -142,12 +142,12 @@ number_digit false false false false false true false starts h = absurd h
 number_digit false false false false false false continued true h = absurd h
 number_digit false false false false false false continued false h = absurd h
 
-class_of-by : (is_start : Bool) (c d : ℕ) →
+pub class_of-by : (is_start : Bool) (c d : ℕ) →
     class_of is_start c d ≡ class_by (is_blank c) (opens_comment c d) (is_start && (c == 45 || c == 43 || c == 42)) (c == 34) (is_ascii_digit c) (c == 95) (continues_name d) (starts_name c)
 unfolding class_of class_by
 class_of-by is_start c d = refl
 
-digit_first : (is_start : Bool) (c d : ℕ) → IsNumber (class_of is_start c d) → is_ascii_digit c ≡ true
+pub digit_first : (is_start : Bool) (c d : ℕ) → IsNumber (class_of is_start c d) → is_ascii_digit c ≡ true
 digit_first is_start c d h = number_digit _ _ _ _ _ _ _ _ (subst IsNumber (class_of-by is_start c d) h)
 
 digits_shrink : (p c : ℕ) (cs : Cells) → is_ascii_digit c ≡ true → size (past is_ascii_digit (letter p c cs)) < suc (size cs)
@@ -180,7 +180,7 @@ found_shrinks is_start (letter p c cs) = class_shrinks (class_of is_start c (fro
 
 -- ---- more turns change nothing
 
-after_found : ℕ → List ℕ → List Token → Cells → Found → Result Next LexFault
+unfoldable pub after_found : ℕ → List ℕ → List Token → Cells → Found → Result Next LexFault
 after_found turns text ts cs f =
     elim f as (λ _. Result Next LexFault) [
       | nothing ↦ Ok (so_far ts)
@@ -191,7 +191,7 @@ after_found turns text ts cs f =
       | word t rest ↦ elim (closes t.kind text ts) as (λ _. Result Next LexFault) [ true ↦ Ok (sentence (ts ++ t ∷ []) t.end) | false ↦ gathered turns text (ts ++ t ∷ []) rest ]
     ]
 
-gathered-suc : (turns : ℕ) (text : List ℕ) (ts : List Token) (cs : Cells) → gathered (suc turns) text ts cs ≡ after_found turns text ts cs (found (is_empty ts) cs)
+pub gathered-suc : (turns : ℕ) (text : List ℕ) (ts : List Token) (cs : Cells) → gathered (suc turns) text ts cs ≡ after_found turns text ts cs (found (is_empty ts) cs)
 unfolding gathered after_found
 gathered-suc turns text ts cs = refl
 
@@ -215,14 +215,14 @@ gathered_enough (suc m) (suc n) text ts cs h k =
       step (flaw fault) s others = refl
       step (word t rest) s others = chosen (closes t.kind text ts) (Ok (sentence (ts ++ t ∷ []) t.end)) _ _ (others (ts ++ t ∷ []) rest s)
 
-begun_by : ℕ → List ℕ → Cells → Bool → Found → Result Next LexFault
+unfoldable pub begun_by : ℕ → List ℕ → Cells → Bool → Found → Result Next LexFault
 begun_by turns text cs is f =
     elim is as (λ _. Result Next LexFault) [
       | true ↦ behind_space (λ rest. begun turns text rest) f
       | false ↦ gathered (suc (length text)) text [] (window (place cs + longest) cs)
     ]
 
-begun-suc : (turns : ℕ) (text : List ℕ) (cs : Cells) → begun (suc turns) text cs ≡ begun_by turns text cs (is_space cs) (found false cs)
+pub begun-suc : (turns : ℕ) (text : List ℕ) (cs : Cells) → begun (suc turns) text cs ≡ begun_by turns text cs (is_space cs) (found false cs)
 unfolding begun begun_by
 begun-suc turns text cs = refl
 

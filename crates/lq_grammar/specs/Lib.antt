@@ -2,3 +2,4 @@ pub mod Cells
 pub mod Tokens
 pub mod Selectors
 pub mod Cutting
+pub mod Spans

@@ -20,7 +20,9 @@ use Rattle.lq_lex.specs.declared.view.Front.TheVariants.{Over, Broken, Beyond, L
 use Rattle.lq_lex.specs.declared.found.Found.{Found as Scanned}
 use Rattle.lq_lex.specs.declared.found.Found.TheVariants as scanned
 use Rattle.lq_lex.specs.Views.{from, Shows, Tells, IsSpanned, is_open_curly}
-use Rattle.lq_lex.specs.Pieces.{IsPiece, Cuts}
+use Rattle.lq_lex.specs.Pieces.{IsPiece, Cuts, Spreads}
+use Rattle.lq_grammar.proofs.SpanLaws.{next_spreads}
+use Rattle.lq_grammar.proofs.SpanLaws as spans
 
 -- ---- answers
 
@@ -175,3 +177,11 @@ unfolding next
 next_behind text at h =
     ap (begun (suc (length text)) text) (cells_over at (drop at text) (omega (arith, length-drop at text)))
     ∙ begun_end (length text) text at
+
+-- ---- where the tokens stand
+
+pub cuts_spread : (text : List ℕ) (at : ℕ) (answer : Result Piece LexFault) → at ≤ length text → Cuts answer (next text at) → Spreads text at answer
+cuts_spread text at (Ok (Sentence tokens stop)) within e = let P : Result Next LexFault → Type 0 = λ r. spans.Spreads at (length text) r in subst P e (next_spreads text at within)
+cuts_spread text at (Ok End) within e = tt
+cuts_spread text at (Ok More) within e = tt
+cuts_spread text at (Err fault) within e = tt

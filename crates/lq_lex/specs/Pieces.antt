@@ -1,10 +1,11 @@
 -- What the scanner answers, as what a text has next.
-use Rattle.std.specs.Prelude.{◌≡◌, ℕ, ◌+◌, ◌≤◌, suc, [], length, Option, Some, None, Result, Ok, Err}
+use Rattle.std.specs.Prelude.{◌≡◌, ℕ, List, ◌+◌, ◌≤◌, suc, [], length, Option, Some, None, Result, Ok, Err}
 use Rattle.std.specs.declared.alloc.AllocError.{AllocError}
 use Rattle.lq_grammar.specs.declared.fault.LexFault.{LexFault}
 use Rattle.lq_grammar.specs.declared.fault.LexFault.TheVariants.{BadChar, OpenComment, OpenString, BadNumber, NoMemory}
 use Rattle.lq_grammar.specs.Cells.{place, window}
 use Rattle.lq_grammar.specs.Cutting.{Next, sentence, finished, longest, gathered}
+use Rattle.lq_grammar.specs.Spans.{IsSpread}
 use Rattle.lq_lex.specs.declared.piece.Piece.{Piece}
 use Rattle.lq_lex.specs.declared.piece.Piece.TheVariants.{Sentence, End, More}
 use Rattle.lq_lex.specs.declared.view.View.{View}
@@ -37,3 +38,10 @@ abbrev pub Begins : View → Result (Option ℕ) LexFault → Result Next LexFau
 Begins v (Ok (Some at)) r = (r ≡ gathered (suc (length v.text.now)) v.text.now [] (window (place (from v at) + longest) (from v at))) × (at ≤ length v.text.now)
 Begins v (Ok None) r = r ≡ Ok finished
 Begins v (Err fault) r = r ≡ Err fault
+
+-- the tokens of a sentence stand one behind another behind a place, none is empty, and the last ends within the text
+abbrev pub Spreads : List ℕ → ℕ → Result Piece LexFault → Type 0
+Spreads text from (Ok (Sentence tokens stop)) = IsSpread from (length text) tokens stop
+Spreads text from (Ok End) = Unit {0}
+Spreads text from (Ok More) = Unit {0}
+Spreads text from (Err fault) = Unit {0}

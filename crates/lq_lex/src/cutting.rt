@@ -4,7 +4,7 @@ ghost use Rattle.std.specs.Prelude.{◌≡◌, ◌+◌, ◌^◌, ◌<◌, ◌≤
 ghost use Rattle.lq_grammar.specs.Cells.{place, view, window};
 ghost use Rattle.lq_grammar.specs.Cutting.{longest, end_of, so_far, cut_off, is_space_class, is_space, gathered, begun, next};
 ghost use Rattle.lq_lex.specs.Views.{from as view_from};
-ghost use Rattle.lq_lex.specs.Pieces.{IsPiece, Gives, Cuts, Begins};
+ghost use Rattle.lq_lex.specs.Pieces.{IsPiece, Gives, Cuts, Begins, Spreads};
 
 use crate::classes::class_of;
 use crate::found::{Found, scan};
@@ -166,6 +166,8 @@ fn cut_ended(alloc: Global, text: &[u8], start: usize) -> Result<Piece, LexFault
 ///
 /// Where the text may go on, which is without `ended`, the answer is `More`.
 ///
+/// The tokens of a sentence stand one behind another at or after the place, none is empty, and they end within the text.
+///
 /// # Errors
 ///
 /// `BadChar`, `OpenComment`, `OpenString` and `BadNumber`, each with its place, where the text has that fault before the
@@ -174,6 +176,7 @@ fn cut_ended(alloc: Global, text: &[u8], start: usize) -> Result<Piece, LexFault
 pub fn cut(alloc: Global, text: &[u8], from: usize, ended: bool) -> Result<Piece, LexFault>
     ensures ended { ended ≡ true → Cuts result (next text.now from) }
     ensures open { ended ≡ false → result ≡ Ok Piece.More }
+    ensures spread { Spreads text.now from result }
 {
     if !ended {
         return Ok(Piece::More);
