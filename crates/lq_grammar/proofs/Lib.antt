@@ -3,3 +3,4 @@ mod Rows
 pub mod CellLaws
 pub mod Turns
 pub mod SpanLaws
+pub mod Agreement
