@@ -56,7 +56,7 @@ Agrees (broken p) ds = place ds ≡ p
 Agrees (beyond p c) ds = place ds ≡ p
 Agrees (letter p c cs) ds = (rest : Cells) × (ds ≡ letter p c rest) × Agrees cs rest
 
-place_agrees : (cs ds : Cells) → Agrees cs ds → place ds ≡ place cs
+pub place_agrees : (cs ds : Cells) → Agrees cs ds → place ds ≡ place cs
 unfolding place
 place_agrees (over p) ds a = a
 place_agrees (broken p) ds a = a
@@ -127,7 +127,7 @@ IsFirm (broken p) = ⊥
 IsFirm (beyond p c) = ⊥
 IsFirm (letter p c cs) = Unit {0}
 
-firm_front : (cs ds : Cells) → IsFirm cs → Agrees cs ds → front ds ≡ front cs
+pub firm_front : (cs ds : Cells) → IsFirm cs → Agrees cs ds → front ds ≡ front cs
 unfolding front
 firm_front (over p) ds f a = absurd f
 firm_front (broken p) ds f a = absurd f
@@ -231,7 +231,7 @@ firm_name p rest others f a = rw (place_agrees rest others a, firm_goes_on conti
   step false true = tt
   step false false = λ g. (others, refl, a)
 
-is_firm : (cs : Cells) → (IsFirm cs) ⊎ (IsFirm cs → ⊥)
+pub is_firm : (cs : Cells) → (IsFirm cs) ⊎ (IsFirm cs → ⊥)
 is_firm (over p) = inr (λ f. f)
 is_firm (broken p) = inr (λ f. f)
 is_firm (beyond p c) = inr (λ f. f)
@@ -350,7 +350,7 @@ class_follows class.Name p c cs ds a = name_follows p cs ds a
 class_follows class.Symbol p c cs ds a = symbol_follows p c cs ds a
 
 -- where no character comes behind the first, all but a blank waits for more
-abbrev IsBlankClass : Class → Type 0
+abbrev pub IsBlankClass : Class → Type 0
 IsBlankClass class.Blank = Unit {0}
 IsBlankClass _ = ⊥
 
@@ -382,7 +382,7 @@ digits_unfirm p c cs e never = step (is_ascii_digit c) e where
   step true g f = past_unfirm is_ascii_digit cs never f
   step false g f = absurd cc
 
-class_unfirm : (k : Class) (p c : ℕ) (cs : Cells) (g : Found) → (IsBlankClass k → ⊥) → (IsNumber k → is_ascii_digit c ≡ true) → (IsFirm cs → ⊥) → Follows (found_at k p c cs) g
+pub class_unfirm : (k : Class) (p c : ℕ) (cs : Cells) (g : Found) → (IsBlankClass k → ⊥) → (IsNumber k → is_ascii_digit c ≡ true) → (IsFirm cs → ⊥) → Follows (found_at k p c cs) g
 unfolding found_at name_at bullet_at
 class_unfirm class.Blank p c cs g blank digit never = absurd (blank tt)
 class_unfirm class.Comment p c cs g blank digit never = unfirm_comment p cs g never
@@ -392,7 +392,7 @@ class_unfirm class.Number p c cs g blank digit never = unfirm_number p (value_fr
 class_unfirm class.Name p c cs g blank digit never = unfirm_name p (past continues_name cs) g (past_unfirm continues_name cs never)
 class_unfirm class.Symbol p c cs g blank digit never = unfirm_symbol p c cs g never
 
-other_class : Bool → ℕ → ℕ → Class
+unfoldable pub other_class : Bool → ℕ → ℕ → Class
 other_class b c d =
     if opens_comment c d then class.Comment
     else if b && (c == 45 || c == 43 || c == 42) then class.Bullet
@@ -413,11 +413,11 @@ other_by false false false false true false starts h = h
 other_by false false false false false continued true h = h
 other_by false false false false false continued false h = h
 
-other_blank : (b : Bool) (c d : ℕ) → IsBlankClass (other_class b c d) → ⊥
+pub other_blank : (b : Bool) (c d : ℕ) → IsBlankClass (other_class b c d) → ⊥
 unfolding other_class
 other_blank b c d h = other_by (opens_comment c d) (b && (c == 45 || c == 43 || c == 42)) (c == 34) (is_ascii_digit c) (c == 95) (continues_name d) (starts_name c) h
 
-blank_class : (b : Bool) (c d e : ℕ) → (class_of b c d ≡ class_of b c e) ⊎ (IsBlankClass (class_of b c d) → ⊥)
+pub blank_class : (b : Bool) (c d e : ℕ) → (class_of b c d ≡ class_of b c e) ⊎ (IsBlankClass (class_of b c d) → ⊥)
 unfolding class_of other_class
 blank_class b c d e = step (is_blank c) where
   step : (v : Bool) → ((if v then class.Blank else other_class b c d) ≡ (if v then class.Blank else other_class b c e)) ⊎ (IsBlankClass (if v then class.Blank else other_class b c d) → ⊥)

@@ -4,3 +4,4 @@ pub mod CellLaws
 pub mod Turns
 pub mod SpanLaws
 pub mod Agreement
+pub mod Staying

@@ -26,7 +26,7 @@ Rises L n (broken p) = p < n
 Rises L n (beyond p c) = (p < n) × (L < n)
 Rises L n (letter p c cs) = (p < place cs) × Rises L n cs
 
-place_rises : (L n : ℕ) (cs : Cells) → Rises L n cs → place cs ≤ n
+pub place_rises : (L n : ℕ) (cs : Cells) → Rises L n cs → place cs ≤ n
 unfolding place
 place_rises L n (over p) r = r
 place_rises L n (broken p) r = omega (arith, r)
@@ -195,7 +195,7 @@ class_spans L n class.Number p c cs digit h r = word_found L n p _ (number_first
 class_spans L n class.Name p c cs digit h r = word_found L n p _ (name_spans L n p cs h r)
 class_spans L n class.Symbol p c cs digit h r = word_found L n p _ (symbol_spans L n p c cs h r)
 
-found_spans : (L n : ℕ) (is_start : Bool) (cs : Cells) → Rises L n cs → IsFoundAt L n (place cs) (found is_start cs)
+pub found_spans : (L n : ℕ) (is_start : Bool) (cs : Cells) → Rises L n cs → IsFoundAt L n (place cs) (found is_start cs)
 unfolding found place
 found_spans L n is_start (over p) r = tt
 found_spans L n is_start (broken p) r = tt
@@ -338,7 +338,7 @@ first_spreads (suc turns) text L n from cs h b r is =
       step (word u rest) s = chosen (closes u.kind text []) _ _ (ends u rest s.0 s.1 s.2 s.3) (gathered_spreads turns text L n from u [] rest (kept_next from (place cs) (place rest) [] u h s.0 s.1 s.2) s.3)
 
 -- a bound hides what stands behind it, and nothing else
-window_rises : (L n : ℕ) (cs : Cells) → Rises n n cs → Rises L n (window L cs)
+pub window_rises : (L n : ℕ) (cs : Cells) → Rises n n cs → Rises L n (window L cs)
 unfolding window
 window_rises L n (over p) r = r
 window_rises L n (broken p) r = step (nat_lt p L) refl where
@@ -384,7 +384,7 @@ place_ahead zero at (b ∷ bs) = step (decoded (b ∷ bs)).char where
   step None = omega arith
   step (Some c) = omega arith
 
-cells_rise : (n k at : ℕ) (bs : List ℕ) → at + length bs ≤ n → Rises n n (cells_from k at bs)
+pub cells_rise : (n k at : ℕ) (bs : List ℕ) → at + length bs ≤ n → Rises n n (cells_from k at bs)
 unfolding cells_from
 cells_rise n k at [] h = omega arith
 cells_rise n (suc k) at (b ∷ bs) h = cells_rise n k (at + 1) bs (omega arith)

@@ -3,3 +3,4 @@ pub mod Tokens
 pub mod Selectors
 pub mod Cutting
 pub mod Spans
+pub mod Settled
