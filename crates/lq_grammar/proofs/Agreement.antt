@@ -1,9 +1,9 @@
 -- A text that goes on: what a shorter text settles stays.
-use Rattle.std.proofs.Common.{◌≡◌, ℕ, zero, suc, ◌+◌, ◌-◌, ◌*◌, ◌^◌, ◌<◌, ◌≤◌, min, Bool, true, false, List, [], ◌∷◌, ◌++◌, drop, length, length-append, Option, Some, None, Result, Ok, Err, refl, sym, ap, ◌∙◌, subst, arith, length-drop, if◌then◌else◌, ◌⊎◌, inl, inr}
+use Rattle.std.proofs.Common.{◌≡◌, ℕ, zero, suc, ◌+◌, ◌-◌, ◌*◌, ◌^◌, ◌<◌, ◌≤◌, min, Bool, true, false, List, [], ◌∷◌, ◌++◌, drop, length, length-append, Option, Some, None, refl, sym, ap, ◌∙◌, subst, arith, if◌then◌else◌, ◌⊎◌, inl, inr}
 use Rattle.std.specs.Prelude.{nat_lt, nat_le, ◌==◌, ◌&&◌, ◌||◌, slice_index}
 use Rattle.std.specs.Char.{is_ascii_digit}
 use Rattle.std.proofs.lemmas.List.{drop-append-le}
-use Rattle.bstr.specs.Utf8.{Decoded, decoded, decoded_by, bad, good, second, continues, code_of_2, code_of_3, code_of_4}
+use Rattle.bstr.specs.Utf8.{decoded, decoded_by}
 use Rattle.bstr.proofs.lemmas.PieceLemmas.{piece-bounds, by-shape, value-1, value-6, value-9, value-12}
 use Rattle.lq_grammar.specs.declared.token.Class.{Class}
 use Rattle.lq_grammar.specs.declared.token.Class.TheVariants as class
@@ -35,8 +35,8 @@ longer n m b c d e c' d' e' x h hc hd he is =
     (λ s. absurd (none (ap (λ r. r.char) s.6)))
     (λ s. absurd (none (ap (λ r. r.char) s.6)))
     (λ s. let c_is = hc (omega (arith, s.0)) in let d_is = hd (omega (arith, s.0)) in let e_is = he (omega (arith, s.0)) in rw (c_is, d_is, e_is) (value-12 m b c d e (omega (arith, s.0), s.1, s.2, s.3, s.4, s.5)) ∙ sym s.6) where
-  none : (decoded_by n b c d e).char ≡ None → ⊥
-  none f = let g = sym is ∙ f in cc
+      none : (decoded_by n b c d e).char ≡ None → ⊥
+      none f = let g = sym is ∙ f in cc
 
 index_append : (k : ℕ) (bs more : List ℕ) → k < length bs → slice_index (bs ++ more) k ≡ slice_index bs k
 index_append k [] more h = absurd (omega arith)
@@ -81,21 +81,24 @@ cells_agree k at [] more h = place_over k at more (omega arith)
 cells_agree (suc k) at (b ∷ bs) more h = cells_agree k (at + 1) bs more (omega arith)
 cells_agree zero at (b ∷ bs) more h =
     step (decoded (b ∷ bs)).char refl (λ c e. inside c e) (λ n k. cells_agree n (at + 1) bs more k) where
-  inside : (c : ℕ) → (decoded (b ∷ bs)).char ≡ Some c → (decoded (b ∷ bs)).size - 1 ≤ length bs
-  inside c e = let sizes = piece-bounds (b ∷ bs) (omega arith) in omega (arith, sizes.2)
-  chosen : (o : Option ℕ) (c : ℕ) (rest : Cells) → o ≡ Some c → elim o as (λ _. Cells) [ None ↦ broken at | Some d ↦ letter at d rest ] ≡ letter at c rest
-  chosen None c rest e = absurd cc
-  chosen (Some d) c rest e = let same : d ≡ c = cc in rw same refl
-  step : (o : Option ℕ) → (decoded (b ∷ bs)).char ≡ o → ((c : ℕ) → (decoded (b ∷ bs)).char ≡ Some c → (decoded (b ∷ bs)).size - 1 ≤ length bs) →
-      ((n : ℕ) → n ≤ length bs → Agrees (cells_from n (at + 1) bs) (cells_from n (at + 1) (bs ++ more))) →
-      Agrees (elim o as (λ _. Cells) [ None ↦ broken at | Some c ↦ letter at c (cells_from ((decoded (b ∷ bs)).size - 1) (at + 1) bs) ])
-      (elim (decoded (b ∷ bs ++ more)).char as (λ _. Cells) [ None ↦ broken at | Some c ↦ letter at c (cells_from ((decoded (b ∷ bs ++ more)).size - 1) (at + 1) (bs ++ more)) ])
-  step None e within others = place_by (decoded (b ∷ bs ++ more)).char at _
-  step (Some c) e within others =
-      let same = decoded_more (b ∷ bs) more c e in
-      (cells_from ((decoded (b ∷ bs)).size - 1) (at + 1) (bs ++ more),
-      chosen (decoded (b ∷ bs ++ more)).char c _ (ap (λ r. r.char) same ∙ e) ∙ ap (λ n. letter at c (cells_from (n - 1) (at + 1) (bs ++ more))) (ap (λ r. r.size) same),
-      others ((decoded (b ∷ bs)).size - 1) (within c e))
+      inside : (c : ℕ) → (decoded (b ∷ bs)).char ≡ Some c → (decoded (b ∷ bs)).size - 1 ≤ length bs
+      inside c e = let sizes = piece-bounds (b ∷ bs) (omega arith) in omega (arith, sizes.2)
+
+      chosen : (o : Option ℕ) (c : ℕ) (rest : Cells) → o ≡ Some c → elim o as (λ _. Cells) [ None ↦ broken at | Some d ↦ letter at d rest ] ≡ letter at c rest
+      chosen None c rest e = absurd cc
+      chosen (Some d) c rest e = let same : d ≡ c = cc in rw same refl
+
+      step : (o : Option ℕ) → (decoded (b ∷ bs)).char ≡ o → ((c : ℕ) → (decoded (b ∷ bs)).char ≡ Some c → (decoded (b ∷ bs)).size - 1 ≤ length bs) →
+          ((n : ℕ) → n ≤ length bs → Agrees (cells_from n (at + 1) bs) (cells_from n (at + 1) (bs ++ more))) →
+          Agrees (elim o as (λ _. Cells) [ None ↦ broken at | Some c ↦ letter at c (cells_from ((decoded (b ∷ bs)).size - 1) (at + 1) bs) ])
+          (elim (decoded (b ∷ bs ++ more)).char as (λ _. Cells) [ None ↦ broken at | Some c ↦ letter at c (cells_from ((decoded (b ∷ bs ++ more)).size - 1) (at + 1) (bs ++ more)) ])
+      step None e within others = place_by (decoded (b ∷ bs ++ more)).char at _
+      step (Some c) e within others =
+          let same = decoded_more (b ∷ bs) more c e in (
+            cells_from ((decoded (b ∷ bs)).size - 1) (at + 1) (bs ++ more),
+            chosen (decoded (b ∷ bs ++ more)).char c _ (ap (λ r. r.char) same ∙ e) ∙ ap (λ n. letter at c (cells_from (n - 1) (at + 1) (bs ++ more))) (ap (λ r. r.size) same),
+            others ((decoded (b ∷ bs)).size - 1) (within c e),
+          )
 
 pub text_agrees : (text more : List ℕ) (at : ℕ) → at ≤ length text → Agrees (cells at (drop at text)) (cells at (drop at (text ++ more)))
 text_agrees text more at h = rw (drop-append-le at text more h) (cells_agree 0 at (drop at text) more (omega arith))
@@ -111,12 +114,13 @@ window_agrees L (beyond p c) ds a = place_window L ds ∙ a
 window_agrees L (letter p c cs) ds a =
     let P : Cells → Type 0 = λ es. Agrees (window L (letter p c cs)) (window L es) in
     subst P (sym a.1) (step (nat_le (place cs) L) (window_agrees L cs a.0 a.2) (ap (λ q. nat_le q L) (place_agrees cs a.0 a.2))) where
-  chosen : (v b : Bool) → v ≡ b → elim v as (λ _. Cells) [ true ↦ letter p c (window L a.0) | false ↦ beyond p c ] ≡ elim b as (λ _. Cells) [ true ↦ letter p c (window L a.0) | false ↦ beyond p c ]
-  chosen v b e = ap (λ w. elim w as (λ _. Cells) [ true ↦ letter p c (window L a.0) | false ↦ beyond p c ]) e
-  step : (b : Bool) → Agrees (window L cs) (window L a.0) → nat_le (place a.0) L ≡ b →
-      Agrees (elim b as (λ _. Cells) [ true ↦ letter p c (window L cs) | false ↦ beyond p c ]) (elim (nat_le (place a.0) L) as (λ _. Cells) [ true ↦ letter p c (window L a.0) | false ↦ beyond p c ])
-  step true w e = (window L a.0, chosen (nat_le (place a.0) L) true e, w)
-  step false w e = ap place (chosen (nat_le (place a.0) L) false e)
+      chosen : (v b : Bool) → v ≡ b → elim v as (λ _. Cells) [ true ↦ letter p c (window L a.0) | false ↦ beyond p c ] ≡ elim b as (λ _. Cells) [ true ↦ letter p c (window L a.0) | false ↦ beyond p c ]
+      chosen v b e = ap (λ w. elim w as (λ _. Cells) [ true ↦ letter p c (window L a.0) | false ↦ beyond p c ]) e
+
+      step : (b : Bool) → Agrees (window L cs) (window L a.0) → nat_le (place a.0) L ≡ b →
+          Agrees (elim b as (λ _. Cells) [ true ↦ letter p c (window L cs) | false ↦ beyond p c ]) (elim (nat_le (place a.0) L) as (λ _. Cells) [ true ↦ letter p c (window L a.0) | false ↦ beyond p c ])
+      step true w e = (window L a.0, chosen (nat_le (place a.0) L) true e, w)
+      step false w e = ap place (chosen (nat_le (place a.0) L) false e)
 
 -- ---- what is found
 
@@ -149,10 +153,10 @@ past_agrees test (beyond p c) ds a f = absurd f
 past_agrees test (letter p c cs) ds a f =
     let P : Cells → Type 0 = λ es. Agrees (past test (letter p c cs)) (past test es) in
     subst P (sym a.1) (step (test c) f (past_agrees test cs a.0 a.2)) where
-  step : (b : Bool) → IsFirm (elim b as (λ _. Cells) [ true ↦ past test cs | false ↦ letter p c cs ]) → (IsFirm (past test cs) → Agrees (past test cs) (past test a.0)) →
-      Agrees (elim b as (λ _. Cells) [ true ↦ past test cs | false ↦ letter p c cs ]) (elim b as (λ _. Cells) [ true ↦ past test a.0 | false ↦ letter p c a.0 ])
-  step true g others = others g
-  step false g others = (a.0, refl, a.2)
+      step : (b : Bool) → IsFirm (elim b as (λ _. Cells) [ true ↦ past test cs | false ↦ letter p c cs ]) → (IsFirm (past test cs) → Agrees (past test cs) (past test a.0)) →
+          Agrees (elim b as (λ _. Cells) [ true ↦ past test cs | false ↦ letter p c cs ]) (elim b as (λ _. Cells) [ true ↦ past test a.0 | false ↦ letter p c a.0 ])
+      step true g others = others g
+      step false g others = (a.0, refl, a.2)
 
 value_agrees : (n : ℕ) (cs ds : Cells) → Agrees cs ds → IsFirm (past is_ascii_digit cs) → value_from n ds ≡ value_from n cs
 unfolding past value_from
@@ -205,10 +209,10 @@ string_follows start true (beyond p c) ds a = step (c == 34) where
 string_follows start true (letter p c cs) ds a =
     let P : Cells → Type 0 = λ es. Follows (string_from start true (letter p c cs)) (string_from start true es) in
     subst P (sym a.1) (step (c == 34) (string_follows start false cs a.0 a.2)) where
-  step : (b : Bool) → Follows (string_from start false cs) (string_from start false a.0) →
-      Follows (elim b as (λ _. Found) [ true ↦ string_from start false cs | false ↦ token kind.Text start (letter p c cs) ]) (elim b as (λ _. Found) [ true ↦ string_from start false a.0 | false ↦ token kind.Text start (letter p c a.0) ])
-  step true h = h
-  step false h = token_follows kind.Text start (letter p c cs) (letter p c a.0) (a.0, refl, a.2)
+      step : (b : Bool) → Follows (string_from start false cs) (string_from start false a.0) →
+          Follows (elim b as (λ _. Found) [ true ↦ string_from start false cs | false ↦ token kind.Text start (letter p c cs) ]) (elim b as (λ _. Found) [ true ↦ string_from start false a.0 | false ↦ token kind.Text start (letter p c a.0) ])
+      step true h = h
+      step false h = token_follows kind.Text start (letter p c cs) (letter p c a.0) (a.0, refl, a.2)
 
 abbrev name_of : ℕ → Cells → Found
 name_of p rest =
@@ -241,8 +245,8 @@ name_follows : (p : ℕ) (cs ds : Cells) → Agrees cs ds → Follows (name_at p
 unfolding name_at
 name_follows p cs ds a =
     elim (is_firm (past continues_name cs)) [
-      inl f ↦ firm_name p (past continues_name cs) (past continues_name ds) f (past_agrees continues_name cs ds a f)
-    | inr never ↦ unfirm_name p (past continues_name cs) (name_of p (past continues_name ds)) never
+      | inl f ↦ firm_name p (past continues_name cs) (past continues_name ds) f (past_agrees continues_name cs ds a f)
+      | inr never ↦ unfirm_name p (past continues_name cs) (name_of p (past continues_name ds)) never
     ]
 
 unfirm_number : (p n : ℕ) (rest : Cells) (g : Found) → (IsFirm rest → ⊥) → Follows (number_by p n rest) g
@@ -258,19 +262,19 @@ firm_number : (p n : ℕ) (rest others : Cells) → IsFirm rest → Agrees rest 
 unfolding number_by
 firm_number p n rest others f a =
     rw (place_agrees rest others a, firm_goes_on continues_name rest others f a, firm_front rest others f a) (step (nat_le (2 ^ 128) n) (goes_on continues_name rest) (continues_name (front rest))) where
-  step : (x b d : Bool) →
-      Follows (if x then flaw (BadNumber p) else if b then crossing (kind.Number n) else if d then flaw (BadNumber p) else token (kind.Number n) p rest)
-      (if x then flaw (BadNumber p) else if b then crossing (kind.Number n) else if d then flaw (BadNumber p) else word (record { kind = kind.Number n; start = p; end = place rest }) others)
-  step true b d = tt
-  step false true d = tt
-  step false false true = tt
-  step false false false = λ g. (others, refl, a)
+      step : (x b d : Bool) →
+          Follows (if x then flaw (BadNumber p) else if b then crossing (kind.Number n) else if d then flaw (BadNumber p) else token (kind.Number n) p rest)
+          (if x then flaw (BadNumber p) else if b then crossing (kind.Number n) else if d then flaw (BadNumber p) else word (record { kind = kind.Number n; start = p; end = place rest }) others)
+      step true b d = tt
+      step false true d = tt
+      step false false true = tt
+      step false false false = λ g. (others, refl, a)
 
 number_follows : (p : ℕ) (cs ds : Cells) → Agrees cs ds → Follows (number_by p (value_from 0 cs) (past is_ascii_digit cs)) (number_by p (value_from 0 ds) (past is_ascii_digit ds))
 number_follows p cs ds a =
     elim (is_firm (past is_ascii_digit cs)) [
-      inl f ↦ rw (value_agrees 0 cs ds a f) (firm_number p (value_from 0 cs) (past is_ascii_digit cs) (past is_ascii_digit ds) f (past_agrees is_ascii_digit cs ds a f))
-    | inr never ↦ unfirm_number p (value_from 0 cs) (past is_ascii_digit cs) (number_by p (value_from 0 ds) (past is_ascii_digit ds)) never
+      | inl f ↦ rw (value_agrees 0 cs ds a f) (firm_number p (value_from 0 cs) (past is_ascii_digit cs) (past is_ascii_digit ds) f (past_agrees is_ascii_digit cs ds a f))
+      | inr never ↦ unfirm_number p (value_from 0 cs) (past is_ascii_digit cs) (number_by p (value_from 0 ds) (past is_ascii_digit ds)) never
     ]
 
 abbrev bullet_of : ℕ → ℕ → Cells → Found
@@ -293,8 +297,8 @@ bullet_follows : (p c : ℕ) (cs ds : Cells) → Agrees cs ds → Follows (bulle
 unfolding bullet_at
 bullet_follows p c cs ds a =
     elim (is_firm (past (λ d. d == c) cs)) [
-      inl f ↦ firm_bullet p c (past (λ d. d == c) cs) (past (λ d. d == c) ds) f (past_agrees (λ d. d == c) cs ds a f)
-    | inr never ↦ unfirm_bullet p c (past (λ d. d == c) cs) (bullet_of p c (past (λ d. d == c) ds)) never
+      | inl f ↦ firm_bullet p c (past (λ d. d == c) cs) (past (λ d. d == c) ds) f (past_agrees (λ d. d == c) cs ds a f)
+      | inr never ↦ unfirm_bullet p c (past (λ d. d == c) cs) (bullet_of p c (past (λ d. d == c) ds)) never
     ]
 
 unfirm_pair : (s : Symbol) (p : ℕ) (cs : Cells) (g : Found) → (IsFirm cs → ⊥) → Follows (pair_at s p cs) g
@@ -433,5 +437,5 @@ found_follows b (beyond p c) ds a = tt
 found_follows b (letter p c cs) ds a =
     let P : Cells → Type 0 = λ es. Follows (found_at (class_of b c (front cs)) p c cs) (found b es) in
     subst P (sym a.1) (elim (is_firm cs) [ inl f ↦ same (ap (class_of b c) (sym (firm_front cs a.0 f a.2))) | inr never ↦ elim (blank_class b c (front cs) (front a.0)) [ inl e ↦ same e | inr blank ↦ class_unfirm (class_of b c (front cs)) p c cs _ blank (digit_first b c (front cs)) never ] ]) where
-  same : class_of b c (front cs) ≡ class_of b c (front a.0) → Follows (found_at (class_of b c (front cs)) p c cs) (found_at (class_of b c (front a.0)) p c a.0)
-  same e = let Q : Class → Type 0 = λ k. Follows (found_at (class_of b c (front cs)) p c cs) (found_at k p c a.0) in subst Q e (class_follows (class_of b c (front cs)) p c cs a.0 a.2)
+      same : class_of b c (front cs) ≡ class_of b c (front a.0) → Follows (found_at (class_of b c (front cs)) p c cs) (found_at (class_of b c (front a.0)) p c a.0)
+      same e = let Q : Class → Type 0 = λ k. Follows (found_at (class_of b c (front cs)) p c cs) (found_at k p c a.0) in subst Q e (class_follows (class_of b c (front cs)) p c cs a.0 a.2)

@@ -1,10 +1,9 @@
 -- A sentence that ends and has a character behind it is the next one however the text goes on.
-use Rattle.std.proofs.Common.{◌≡◌, ℕ, zero, suc, ◌+◌, ◌-◌, ◌<◌, ◌≤◌, Bool, true, false, List, [], ◌∷◌, ◌++◌, take, drop, length, length-append, length-drop, Option, Some, None, Result, Ok, Err, refl, sym, ap, ◌∙◌, subst, arith, ◌⊎◌, inl, inr, if◌then◌else◌}
-use Rattle.std.specs.Prelude.{nat_lt, nat_le, ◌==◌, ◌&&◌, ◌||◌, not, codes, bytes_eq, slice_range}
+use Rattle.std.proofs.Common.{◌≡◌, ℕ, zero, suc, ◌+◌, ◌-◌, ◌≤◌, Bool, true, false, List, [], ◌∷◌, ◌++◌, take, drop, length, length-append, length-drop, Result, Ok, refl, sym, ap, ◌∙◌, subst, arith, inl, inr, if◌then◌else◌}
+use Rattle.std.specs.Prelude.{nat_lt, nat_le, ◌&&◌, ◌||◌, not, codes, bytes_eq}
 use Rattle.std.proofs.lemmas.List.{drop-append-le, take-append-le}
 use Rattle.lq_grammar.specs.declared.fault.LexFault.{LexFault}
 use Rattle.lq_grammar.specs.declared.selector.RangePart.TheVariants.{First}
-use Rattle.lq_grammar.specs.declared.token.Class.{Class}
 use Rattle.lq_grammar.specs.declared.token.Class.TheVariants as class
 use Rattle.lq_grammar.specs.declared.token.Symbol.TheVariants as sign
 use Rattle.lq_grammar.specs.declared.token.Token.{Token}
@@ -13,9 +12,8 @@ use Rattle.lq_grammar.specs.declared.token.TokenKind.TheVariants as kind
 use Rattle.lq_grammar.specs.Cells.{Cells, over, broken, beyond, letter, cells, place, front, window}
 use Rattle.lq_grammar.specs.Tokens.{Found, nothing, bound, space, word, crossing, flaw, is_blank, class_of, found_at, found}
 use Rattle.lq_grammar.specs.Selectors.{spelled, is_empty, is_colon, is_bang, is_word, is_reserved, is_open_square, is_close_square, is_word_selector, is_named_selector, ranges_to_colon, opens, closes}
-use Rattle.lq_grammar.specs.Cutting.{Next, sentence, finished, longest, so_far, cut_off, gathered, is_space_class, is_space, behind_space, begun, next}
+use Rattle.lq_grammar.specs.Cutting.{Next, sentence, longest, gathered, is_space_class, is_space, behind_space, begun, next}
 use Rattle.lq_grammar.specs.Settled.{has_character, is_settled, settled_behind, begins_settled}
-use Rattle.lq_grammar.proofs.CellLaws.{place_window}
 use Rattle.lq_grammar.proofs.Turns.{digit_first, gathered-suc, after_found, begun-suc, begun_by}
 use Rattle.lq_grammar.proofs.SpanLaws.{Rises, IsFoundAt, found_spans, place_rises, window_rises, cells_rise}
 use Rattle.lq_grammar.proofs.Agreement.{Agrees, IsFirm, is_firm, firm_front, IsBlankClass, blank_class, other_class, other_blank, class_unfirm, Follows, found_follows, place_agrees, window_agrees, text_agrees}
@@ -71,18 +69,18 @@ firm_by (broken p) e = absurd cc
 firm_by (beyond p c) e = absurd cc
 firm_by (letter p c cs) e = tt
 
-unfoldable settled_by : ℕ → List ℕ → List Token → Found → Bool
+unfoldable pub settled_by : ℕ → List ℕ → List Token → Found → Bool
 settled_by turns text ts f =
     elim f as (λ _. Bool) [
-      nothing ↦ false
-    | bound ↦ false
-    | space rest ↦ is_settled turns text ts rest
-    | crossing k ↦ false
-    | flaw fault ↦ false
-    | word t rest ↦ elim (closes t.kind text ts) as (λ _. Bool) [ true ↦ has_character rest | false ↦ is_settled turns text (ts ++ t ∷ []) rest ]
+      | nothing ↦ false
+      | bound ↦ false
+      | space rest ↦ is_settled turns text ts rest
+      | crossing k ↦ false
+      | flaw fault ↦ false
+      | word t rest ↦ elim (closes t.kind text ts) as (λ _. Bool) [ true ↦ has_character rest | false ↦ is_settled turns text (ts ++ t ∷ []) rest ]
     ]
 
-is_settled-suc : (turns : ℕ) (text : List ℕ) (ts : List Token) (cs : Cells) → is_settled (suc turns) text ts cs ≡ settled_by turns text ts (found (is_empty ts) cs)
+pub is_settled-suc : (turns : ℕ) (text : List ℕ) (ts : List Token) (cs : Cells) → is_settled (suc turns) text ts cs ≡ settled_by turns text ts (found (is_empty ts) cs)
 unfolding is_settled settled_by
 is_settled-suc turns text ts cs = refl
 
@@ -132,20 +130,20 @@ gathered_stays (suc m) (suc n) text more L ts cs ds h a r s e =
     ∙ step (found (is_empty ts) cs) (found (is_empty ts) ds) (found_follows (is_empty ts) cs ds a) (found_spans L (length text) (is_empty ts) cs r) (sym (is_settled-suc m text ts cs) ∙ e)
     (λ us rest others b q k f. gathered_stays m n text more L us rest others (omega arith) b q k f)
     ∙ sym (gathered-suc m text ts cs) where
-  step : (f g : Found) → Follows f g → IsFoundAt L (length text) (place cs) f → settled_by m text ts f ≡ true →
-      ((us : List Token) (rest others : Cells) → Agrees rest others → Rises L (length text) rest → Stand (length text) us → is_settled m text us rest ≡ true → gathered n (text ++ more) us others ≡ gathered m text us rest) →
-      after_found n (text ++ more) ts ds g ≡ after_found m text ts cs f
-  step nothing g b q k others = absurd cc
-  step bound g b q k others = absurd cc
-  step (space rest) g b q k others = ap (after_found n (text ++ more) ts ds) b.1 ∙ others ts rest b.0 b.2 q.1 s k
-  step (crossing c) g b q k others = absurd cc
-  step (flaw fault) g b q k others = absurd cc
-  step (word t rest) g b q k others =
-      let known = word_settled m text ts t rest (closes t.kind text ts) refl k in
-      let follows = b (word_firm m text ts t rest (closes t.kind text ts) refl k) in
-      ap (after_found n (text ++ more) ts ds) follows.1
-      ∙ word_stays m n text more ts t rest follows.0 cs ds (closes t.kind text ts) refl (closes_more t.kind text more ts s)
-      (λ e. others (ts ++ t ∷ []) rest follows.0 follows.2 q.3 (stand_push (length text) ts t s (omega (arith, q.0, q.1)) (omega (arith, q.2, place_rises L (length text) rest q.3))) (known e))
+      step : (f g : Found) → Follows f g → IsFoundAt L (length text) (place cs) f → settled_by m text ts f ≡ true →
+          ((us : List Token) (rest others : Cells) → Agrees rest others → Rises L (length text) rest → Stand (length text) us → is_settled m text us rest ≡ true → gathered n (text ++ more) us others ≡ gathered m text us rest) →
+          after_found n (text ++ more) ts ds g ≡ after_found m text ts cs f
+      step nothing g b q k others = absurd cc
+      step bound g b q k others = absurd cc
+      step (space rest) g b q k others = ap (after_found n (text ++ more) ts ds) b.1 ∙ others ts rest b.0 b.2 q.1 s k
+      step (crossing c) g b q k others = absurd cc
+      step (flaw fault) g b q k others = absurd cc
+      step (word t rest) g b q k others =
+          let known = word_settled m text ts t rest (closes t.kind text ts) refl k in
+          let follows = b (word_firm m text ts t rest (closes t.kind text ts) refl k) in
+          ap (after_found n (text ++ more) ts ds) follows.1
+          ∙ word_stays m n text more ts t rest follows.0 cs ds (closes t.kind text ts) refl (closes_more t.kind text more ts s)
+          (λ e. others (ts ++ t ∷ []) rest follows.0 follows.2 q.3 (stand_push (length text) ts t s (omega (arith, q.0, q.1)) (omega (arith, q.2, place_rises L (length text) rest q.3))) (known e))
 
 -- ---- blanks and comments before a sentence
 
@@ -160,8 +158,8 @@ none_word f t rest e firm h = let P : Found → Type 0 = λ g. Follows g nothing
 class_stays : (p c : ℕ) (cs ds : Cells) → Agrees cs ds → ((IsFirm cs → ⊥) → (IsBlankClass (class_of false c (front cs)) → ⊥) → ⊥) → class_of false c (front ds) ≡ class_of false c (front cs)
 class_stays p c cs ds a never =
     elim (is_firm cs) [
-      inl f ↦ ap (class_of false c) (firm_front cs ds f a)
-    | inr unfirm ↦ elim (blank_class false c (front cs) (front ds)) [ inl e ↦ sym e | inr blank ↦ absurd (never unfirm blank) ]
+      | inl f ↦ ap (class_of false c) (firm_front cs ds f a)
+      | inr unfirm ↦ elim (blank_class false c (front cs) (front ds)) [ inl e ↦ sym e | inr blank ↦ absurd (never unfirm blank) ]
     ]
 
 is_space_letter : (p c : ℕ) (cs : Cells) → is_space (letter p c cs) ≡ is_space_class (class_of false c (front cs))
@@ -229,14 +227,14 @@ start_stays turns text L (broken p) ds a is e = absurd (unfirm_window L (broken 
 start_stays turns text L (beyond p c) ds a is e = absurd (unfirm_window L (beyond p c) (λ f. f) (settled_firm (suc turns) text [] (window L (beyond p c)) e))
 start_stays turns text L (letter p c cs) ds a is e = is_space_stays p c cs ds a.0 false a.1 a.2 is (λ unfirm blank. settled_start turns text L p c cs e unfirm blank)
 
-unfoldable begins_by : ℕ → List ℕ → Cells → Bool → Found → Bool
+unfoldable pub begins_by : ℕ → List ℕ → Cells → Bool → Found → Bool
 begins_by turns text cs is f =
     elim is as (λ _. Bool) [
-      true ↦ settled_behind (λ rest. begins_settled turns text rest) f
-    | false ↦ is_settled (suc (length text)) text [] (window (place cs + longest) cs)
+      | true ↦ settled_behind (λ rest. begins_settled turns text rest) f
+      | false ↦ is_settled (suc (length text)) text [] (window (place cs + longest) cs)
     ]
 
-begins_settled-suc : (turns : ℕ) (text : List ℕ) (cs : Cells) → begins_settled (suc turns) text cs ≡ begins_by turns text cs (is_space cs) (found false cs)
+pub begins_settled-suc : (turns : ℕ) (text : List ℕ) (cs : Cells) → begins_settled (suc turns) text cs ≡ begins_by turns text cs (is_space cs) (found false cs)
 unfolding begins_settled begins_by
 begins_settled-suc turns text cs = refl
 
@@ -280,13 +278,14 @@ begun_stays (suc m) (suc n) text more cs ds h a r e =
     begun-suc n (text ++ more) ds
     ∙ step (is_space cs) refl (sym (begins_settled-suc m text cs) ∙ e) (λ rest others b q k. begun_stays m n text more rest others (omega arith) b q k)
     ∙ sym (begun-suc m text cs) where
-  rest_rises : (rest : Cells) → found false cs ≡ space rest → Rises (length text) (length text) rest
-  rest_rises rest f = let P : Found → Type 0 = λ g. IsFoundAt (length text) (length text) (place cs) g in let k = subst P f (found_spans (length text) (length text) false cs r) in k.1
-  step : (b : Bool) → is_space cs ≡ b → begins_by m text cs b (found false cs) ≡ true →
-      ((rest others : Cells) → Agrees rest others → Rises (length text) (length text) rest → begins_settled m text rest ≡ true → begun n (text ++ more) others ≡ begun m text rest) →
-      begun_by n (text ++ more) ds (is_space ds) (found false ds) ≡ begun_by m text cs b (found false cs)
-  step true is k go = begun_space_stays m n text more cs ds (found false cs) is refl a (found_follows false cs ds a) k (λ rest others f b q. go rest others b (rest_rises rest f) q)
-  step false is k go = begun_start_stays m n text more cs ds is a r k
+      rest_rises : (rest : Cells) → found false cs ≡ space rest → Rises (length text) (length text) rest
+      rest_rises rest f = let P : Found → Type 0 = λ g. IsFoundAt (length text) (length text) (place cs) g in let k = subst P f (found_spans (length text) (length text) false cs r) in k.1
+
+      step : (b : Bool) → is_space cs ≡ b → begins_by m text cs b (found false cs) ≡ true →
+          ((rest others : Cells) → Agrees rest others → Rises (length text) (length text) rest → begins_settled m text rest ≡ true → begun n (text ++ more) others ≡ begun m text rest) →
+          begun_by n (text ++ more) ds (is_space ds) (found false ds) ≡ begun_by m text cs b (found false cs)
+      step true is k go = begun_space_stays m n text more cs ds (found false cs) is refl a (found_follows false cs ds a) k (λ rest others f b q. go rest others b (rest_rises rest f) q)
+      step false is k go = begun_start_stays m n text more cs ds is a r k
 
 -- What a text has next is settled, and stays, if the sentence ends and a character stands behind it.
 pub next_stays : (text more : List ℕ) (at : ℕ) → at ≤ length text → begins_settled (suc (length text)) text (cells at (drop at text)) ≡ true → next (text ++ more) at ≡ next text at

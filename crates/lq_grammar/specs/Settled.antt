@@ -18,12 +18,12 @@ unfoldable pub is_settled : ℕ → List ℕ → List Token → Cells → Bool
 is_settled zero text ts cs = false
 is_settled (suc turns) text ts cs =
     elim (found (is_empty ts) cs) [
-      nothing ↦ false
-    | bound ↦ false
-    | space rest ↦ is_settled turns text ts rest
-    | crossing k ↦ false
-    | flaw fault ↦ false
-    | word t rest ↦ elim (closes t.kind text ts) [ true ↦ has_character rest | false ↦ is_settled turns text (ts ++ t ∷ []) rest ]
+      | nothing ↦ false
+      | bound ↦ false
+      | space rest ↦ is_settled turns text ts rest
+      | crossing k ↦ false
+      | flaw fault ↦ false
+      | word t rest ↦ elim (closes t.kind text ts) [ true ↦ has_character rest | false ↦ is_settled turns text (ts ++ t ∷ []) rest ]
     ]
 
 -- so for the first sentence behind a space
@@ -36,6 +36,10 @@ unfoldable pub begins_settled : ℕ → List ℕ → Cells → Bool
 begins_settled zero text cs = false
 begins_settled (suc turns) text cs =
     elim (is_space cs) [
-      true ↦ settled_behind (λ rest. begins_settled turns text rest) (found false cs)
-    | false ↦ is_settled (suc (length text)) text [] (window (place cs + longest) cs)
+      | true ↦ settled_behind (λ rest. begins_settled turns text rest) (found false cs)
+      | false ↦ is_settled (suc (length text)) text [] (window (place cs + longest) cs)
     ]
+
+-- whether what a text has next at or after a place is a sentence that ends, with a character behind it
+unfoldable pub settles : List ℕ → ℕ → Bool
+settles text from = begins_settled (suc (length text)) text (cells from (drop from text))

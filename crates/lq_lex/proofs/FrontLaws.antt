@@ -4,6 +4,7 @@ use Rattle.lq_grammar.specs.Cells.{Cells, letter, front, past, goes_on}
 use Rattle.lq_lex.specs.declared.view.View.{View}
 use Rattle.lq_lex.specs.declared.view.Front.{Front}
 use Rattle.lq_lex.specs.declared.view.Front.TheVariants.{Over, Broken, Beyond, Letter}
+use Rattle.lq_grammar.specs.Settled.{has_character}
 use Rattle.lq_grammar.specs.Tokens.{is_clear}
 use Rattle.lq_lex.specs.Views.{from, Shows, front_of, clear_of}
 
@@ -71,3 +72,14 @@ clear-from v at Over shown = ap is_clear (sym shown)
 clear-from v at Broken shown = ap is_clear (sym shown)
 clear-from v at (Beyond c) shown = ap is_clear (sym shown)
 clear-from v at (Letter c next) shown = ap is_clear (sym shown.0)
+
+pub character-from : (v : View) (at c next : ℕ) → Shows v at (Letter c next) → has_character (from v at) ≡ true
+unfolding has_character
+character-from v at c next shown = ap has_character shown.0
+
+pub character-none : (v : View) (at : ℕ) (f : Front) → Shows v at f → ((c next : ℕ) → f ≡ Letter c next → ⊥) → has_character (from v at) ≡ false
+unfolding has_character
+character-none v at Over shown never = ap has_character shown
+character-none v at Broken shown never = ap has_character shown
+character-none v at (Beyond c) shown never = ap has_character shown
+character-none v at (Letter c next) shown never = absurd (never c next refl)

@@ -3,8 +3,9 @@
 ghost use Rattle.std.specs.Prelude.{◌≡◌, ◌+◌, ◌^◌, ◌<◌, ◌≤◌, suc, true, false, [], length};
 ghost use Rattle.lq_grammar.specs.Cells.{place, view, window};
 ghost use Rattle.lq_grammar.specs.Cutting.{longest, end_of, so_far, cut_off, is_space_class, is_space, gathered, begun, next};
+ghost use Rattle.lq_grammar.specs.Settled.{is_settled, begins_settled, settles};
 ghost use Rattle.lq_lex.specs.Views.{from as view_from};
-ghost use Rattle.lq_lex.specs.Pieces.{IsPiece, Gives, Cuts, Begins, Spreads};
+ghost use Rattle.lq_lex.specs.Pieces.{IsPiece, Gives, Cuts, Gathers, Begins, Spreads, Waits};
 
 use crate::classes::class_of;
 use crate::found::{Found, scan};
@@ -16,6 +17,15 @@ use std::alloc::{AllocError, Global};
 
 /// How many bytes from its start a sentence is looked for.
 const LONGEST: usize = 65_536;
+
+/// What comes next in a text that is all there, and whether it stays where the text goes on.
+#[derive(Drop)]
+struct Candidate {
+    /// What comes next.
+    piece: Piece,
+    /// Whether it is a sentence that ends, with a character behind it.
+    settled: bool,
+}
 
 /// The sentence that has these tokens and does not end, where the last of them ends at a place.
 fn so_far(tokens: Vec<Token>, end: usize) -> Piece
@@ -57,10 +67,20 @@ fn cut_off(
     Ok(so_far(tokens, end))
 }
 
+/// A piece that waits for more where the text goes on.
+fn unsettled(piece: Piece) -> Candidate
+    ensures { result ≡ record { piece = piece; settled = false } }
+{
+    Candidate {
+        piece,
+        settled: false,
+    }
+}
+
 /// The sentence that begins at a place.
-fn gather(alloc: Global, view: &View<'_>, start: usize) -> Result<Piece, LexFault>
+fn gather(alloc: Global, view: &View<'_>, start: usize) -> Result<Candidate, LexFault>
     requires { start ≤ length view.now.text.now }
-    ensures { Cuts result (gathered (suc (length view.now.text.now)) view.now.text.now [] (view_from view.now start)) }
+    ensures { Gathers result (gathered (suc (length view.now.text.now)) view.now.text.now [] (view_from view.now start)) (is_settled (suc (length view.now.text.now)) view.now.text.now [] (view_from view.now start)) }
 {
     let mut tokens = Vec::new(alloc);
     let mut at = start;
@@ -68,16 +88,22 @@ fn gather(alloc: Global, view: &View<'_>, start: usize) -> Result<Piece, LexFaul
     let mut braced = false;
     for turn in 0..view.text.len() + 1 {
         match scan(view, is_none(&tokens), at) {
-            Found::Nothing => return Ok(so_far(tokens, end)),
-            Found::Bound => return Ok(so_far(tokens, end)),
+            Found::Nothing => return Ok(unsettled(so_far(tokens, end))),
+            Found::Bound => return Ok(unsettled(so_far(tokens, end))),
             Found::Space(next) => at = next,
-            Found::Crossing(kind) => return Ok(cut_off(alloc, tokens, end, kind, at)?),
+            Found::Crossing(kind) => {
+                let piece = cut_off(alloc, tokens, end, kind, at)?;
+                return Ok(unsettled(piece));
+            }
             Found::Flaw(fault) => return Err(fault),
             Found::Word(token) => {
                 let ends = closes(token.kind, view.text, &tokens, braced);
                 tokens.push(token)?;
                 if ends {
-                    return Ok(Piece::Sentence(Tokens::from_vec(tokens), token.end));
+                    return Ok(Candidate {
+                        piece: Piece::Sentence(Tokens::from_vec(tokens), token.end),
+                        settled: view.has_character(token.end),
+                    });
                 }
                 braced = braced | is_open_curly(token.kind);
                 at = token.end;
@@ -85,7 +111,7 @@ fn gather(alloc: Global, view: &View<'_>, start: usize) -> Result<Piece, LexFaul
             }
         }
     }
-    Ok(so_far(tokens, end))
+    Ok(unsettled(so_far(tokens, end)))
 }
 
 /// Whether such a character stands before a sentence.
@@ -109,7 +135,7 @@ fn is_space(view: &View<'_>, at: usize) -> bool
 /// Where the first sentence begins behind the blanks and comments from a place on.
 fn sentence_start(view: &View<'_>, start: usize) -> Result<Option<usize>, LexFault>
     requires { start ≤ length view.now.text.now }
-    ensures { Begins view.now result (begun (suc (length view.now.text.now)) view.now.text.now (view_from view.now start)) }
+    ensures { Begins view.now result (begun (suc (length view.now.text.now)) view.now.text.now (view_from view.now start)) (begins_settled (suc (length view.now.text.now)) view.now.text.now (view_from view.now start)) }
 {
     let mut at = start;
     for turn in 0..view.text.len() + 1 {
@@ -134,10 +160,10 @@ fn bound(text: &[u8], start: usize) -> usize
     if far < text.len() { far } else { text.len() }
 }
 
-/// The next sentence of a text that is all there, at or after a place.
-fn cut_ended(alloc: Global, text: &[u8], start: usize) -> Result<Piece, LexFault>
+/// What a text that is all there has next at or after a place.
+fn next_candidate(alloc: Global, text: &[u8], start: usize) -> Result<Candidate, LexFault>
     requires { start ≤ length text.now }
-    ensures { Cuts result (next text.now start) }
+    ensures { Gathers result (next text.now start) (settles text.now start) }
 {
     let whole = View {
         text,
@@ -148,8 +174,41 @@ fn cut_ended(alloc: Global, text: &[u8], start: usize) -> Result<Piece, LexFault
             let limit = bound(text, first);
             gather(alloc, &View { text, limit }, first)
         }
-        Ok(None) => Ok(Piece::End),
+        Ok(None) => Ok(unsettled(Piece::End)),
         Err(fault) => Err(fault),
+    }
+}
+
+/// The next sentence of a text that is all there, at or after a place.
+fn cut_ended(alloc: Global, text: &[u8], start: usize) -> Result<Piece, LexFault>
+    ensures { Cuts result (next text.now start) }
+{
+    if start > text.len() {
+        return Ok(Piece::End);
+    }
+    match next_candidate(alloc, text, start) {
+        Ok(found) => Ok(found.piece),
+        Err(fault) => Err(fault),
+    }
+}
+
+/// The next sentence of a text that may go on, at or after a place.
+fn cut_open(alloc: Global, text: &[u8], start: usize) -> Result<Piece, LexFault>
+    ensures { Waits text.now start result }
+{
+    if start > text.len() {
+        return Ok(Piece::More);
+    }
+    match next_candidate(alloc, text, start) {
+        Ok(found) => {
+            if found.settled {
+                Ok(found.piece)
+            } else {
+                Ok(Piece::More)
+            }
+        }
+        Err(LexFault::NoMemory) => Err(LexFault::NoMemory),
+        Err(_) => Ok(Piece::More),
     }
 }
 
@@ -164,7 +223,8 @@ fn cut_ended(alloc: Global, text: &[u8], start: usize) -> Result<Piece, LexFault
 ///   Where the text ends before that, the tokens are those up to the end of the text.
 /// - `End` where only blanks and comments are left.
 ///
-/// Where the text may go on, which is without `ended`, the answer is `More`.
+/// Without `ended` the text may go on. The answer is then the next sentence where it has its end and a character behind
+/// that: it is the same however the text goes on. In all other cases the answer is `More`.
 ///
 /// The tokens of a sentence stand one behind another at or after the place, none is empty, and they end within the text.
 ///
@@ -175,14 +235,12 @@ fn cut_ended(alloc: Global, text: &[u8], start: usize) -> Result<Piece, LexFault
 /// `NoMemory` where there is no memory for the tokens.
 pub fn cut(alloc: Global, text: &[u8], from: usize, ended: bool) -> Result<Piece, LexFault>
     ensures ended { ended ≡ true → Cuts result (next text.now from) }
-    ensures open { ended ≡ false → result ≡ Ok Piece.More }
+    ensures open { ended ≡ false → Waits text.now from result }
     ensures spread { Spreads text.now from result }
 {
-    if !ended {
-        return Ok(Piece::More);
+    if ended {
+        cut_ended(alloc, text, from)
+    } else {
+        cut_open(alloc, text, from)
     }
-    if from > text.len() {
-        return Ok(Piece::End);
-    }
-    cut_ended(alloc, text, from)
 }

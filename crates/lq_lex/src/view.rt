@@ -4,6 +4,7 @@ ghost use Rattle.std.specs.Prelude.{◌≡◌, ◌≤◌, drop, length};
 ghost use Rattle.bstr.specs.Utf8.{decoded};
 ghost use Rattle.lq_grammar.specs.Cells.{front};
 ghost use Rattle.lq_grammar.specs.Tokens.{is_clear};
+ghost use Rattle.lq_grammar.specs.Settled.{has_character};
 ghost use Rattle.lq_lex.specs.Views.{from, Shows, front_of, clear_of};
 
 use crate::characters::is_blank;
@@ -111,5 +112,13 @@ impl View<'_> {
         ensures { result ≡ is_clear (from self.now at) }
     {
         self.front(at).is_clear()
+    }
+
+    /// Whether a character stands at a place.
+    pub(crate) fn has_character(&self, at: usize) -> bool
+        requires { at ≤ length self.now.text.now }
+        ensures { result ≡ has_character (from self.now at) }
+    {
+        matches!(self.front(at), Front::Letter(_, _))
     }
 }

@@ -1,7 +1,7 @@
 //! Small texts: each kind of token, the ends of sentences, and the places of faults.
 
 use crate::rows::{bullet, fault, gives, is_over, name, number, string, symbol};
-use lq_lex::{LexFault, Symbol};
+use lq_lex::{LexFault, Piece, Symbol, cut};
 use std::test::Fail;
 
 #[test]
@@ -139,4 +139,29 @@ fn faults_with_their_places(rt: HostRuntime) {
     for (text, wanted) in rows {
         assert_eq!(rt; fault(alloc, text), Some(wanted));
     }
+}
+
+#[test]
+fn texts_that_may_go_on(rt: HostRuntime) -> Result<(), Fail> {
+    let alloc = rt.alloc();
+    for text in [
+        b"Show".as_slice(),
+        b"Show.",
+        b" ",
+        b"(* a",
+        b"a # b",
+        b"\xe4\xb8",
+    ] {
+        assert!(rt; matches!(cut(alloc, text, 0, false)?, Piece::More));
+    }
+    let Piece::Sentence(tokens, end) = cut(alloc, b"Show. ", 0, false)? else {
+        assert!(rt; false, "the sentence has its end");
+        return Ok(());
+    };
+    assert_eq!(rt; end, 5);
+    assert_eq!(rt;
+        tokens.as_slice(),
+        [name(0, 4), symbol(Symbol::Stop, 4, 5)].as_slice()
+    );
+    Ok(())
 }
