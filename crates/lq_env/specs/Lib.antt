@@ -1,0 +1,10 @@
+pub mod Families
+pub mod Making
+pub mod Environments
+pub mod Agreeing
+pub mod Telescopes
+pub mod Building
+pub mod Spines
+pub mod Computing
+pub mod Premises
+pub mod Inductive

@@ -1,0 +1,18 @@
+//! Declarations: what an environment says of its names, and the families that it takes.
+#![tactic(auto)]
+
+mod computing;
+mod eliminators;
+mod environment;
+mod family;
+mod inductive;
+mod made;
+mod making;
+mod positivity;
+mod spines;
+mod stored;
+mod telescopes;
+
+pub use environment::{Declared, Entry, Env, EnvMark, Sorts};
+pub use family::{Constructors, EnvFault, Family};
+pub use made::{FamilyRules, Made};
