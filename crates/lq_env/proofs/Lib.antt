@@ -21,3 +21,6 @@ pub mod StoredTypes
 pub mod Declaring
 pub mod Entries
 pub mod Closed
+pub mod PremiseSteps
+pub mod DraftLaws
+pub mod GeneratedLaws

@@ -22,7 +22,11 @@ use lq_terms::{Bank, Hypothesis, NoMemory, Node, TermId, spread};
 use lq_trees::Sort;
 
 /// A function applied to the term of a node.
-fn apply_node(bank: &mut Bank<'_>, function: TermId, argument: Node) -> Result<TermId, NoMemory>
+pub(crate) fn apply_node(
+    bank: &mut Bank<'_>,
+    function: TermId,
+    argument: Node,
+) -> Result<TermId, NoMemory>
     requires function { HasTerm bank.old function }
     requires argument { HasParts bank.old argument }
     ensures made { IfOk result (λ t. IsTerm bank.new t (Tree.App (tree_of bank.old function) (node_tree bank.old argument))) }
@@ -33,7 +37,7 @@ fn apply_node(bank: &mut Bank<'_>, function: TermId, argument: Node) -> Result<T
 }
 
 /// A function applied to the hypotheses of a context, in order.
-fn apply_hypotheses(
+pub(crate) fn apply_hypotheses(
     bank: &mut Bank<'_>,
     function: TermId,
     context: &[Hypothesis],
@@ -51,7 +55,7 @@ fn apply_hypotheses(
 }
 
 /// A function applied to the bound variables of binders, in order: each has its place among so many.
-fn apply_places(
+pub(crate) fn apply_places(
     bank: &mut Bank<'_>,
     function: TermId,
     places: &[u32],
@@ -88,7 +92,7 @@ fn apply_moved(
 }
 
 /// A function applied to terms whose bound variables move.
-fn apply_each(
+pub(crate) fn apply_each(
     bank: &mut Bank<'_>,
     function: TermId,
     terms: &[TermId],
@@ -134,7 +138,11 @@ fn into_sort(bank: &mut Bank<'_>, domain: TermId, sort: Sort) -> Result<TermId, 
 }
 
 /// The type of the predicate of an eliminator into a sort.
-fn predicate(bank: &mut Bank<'_>, family: &Family, sort: Sort) -> Result<TermId, EnvFault>
+pub(crate) fn predicate(
+    bank: &mut Bank<'_>,
+    family: &Family,
+    sort: Sort,
+) -> Result<TermId, EnvFault>
     requires { IsFamily bank.old family.now }
     ensures answer { Builds bank.new result (predicate_type (family_of bank.old family.now) sort) }
     ensures grows { Grows bank.old bank.new }
@@ -164,7 +172,7 @@ fn at_scrutinee(
 }
 
 /// The conclusion of an eliminator: for the indices and each `z` of the family at them, the predicate, which stands outside the premises.
-fn conclude(bank: &mut Bank<'_>, family: &Family) -> Result<TermId, EnvFault>
+pub(crate) fn conclude(bank: &mut Bank<'_>, family: &Family) -> Result<TermId, EnvFault>
     requires family { IsFamily bank.old family.now }
     requires constructors { length family.now.constructors ≤ 1000000 }
     requires indices { length family.now.indices ≤ 1000000 }

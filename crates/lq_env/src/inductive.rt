@@ -1,17 +1,18 @@
 //! A family is declared: its names, the tests on its constructors, its types, its entries.
 
-ghost use Rattle.std.specs.Prelude.{◌≡◌, ◌<◌, ◌||◌, is_some, false, List, None, [], ◌∷◌, ◌++◌, length, IfOk, OnOk, OnErr};
+ghost use Rattle.std.specs.Prelude.{◌≡◌, ◌<◌, ◌||◌, is_some, false, List, None, [], ◌∷◌, ◌++◌, length, IfOk, IfErr, OnOk, OnErr};
 ghost use Rattle.std.specs.List.{AllByRecursion};
 ghost use Rattle.lq_trees.specs.Tree.{Name};
-ghost use Rattle.lq_terms.specs.Terms.{HasName, IsName, Grows, text_of};
-ghost use Rattle.lq_calculus.specs.Declarations.{sorts, eliminator_name, first_taken, names_of, constructors_fault};
-ghost use Rattle.lq_env.specs.Families.{IsSort, IsFamily, family_of};
-ghost use Rattle.lq_env.specs.Environments.{declared_of, IsEnv, env_of, Extends};
-ghost use Rattle.lq_env.specs.Inductive.{Passes, HasNames, texts_of, firsts, among, AreEliminatorNames, AreFree, constructors_declared, eliminators_declared, family_declared};
+ghost use Rattle.lq_terms.specs.Terms.{HasName, IsName, Grows, text_of, tree_of};
+ghost use Rattle.lq_calculus.specs.Declarations.{sorts, permits, eliminator_name, first_taken, names_of, constructors_fault, family_fault, add_inductive};
+ghost use Rattle.lq_env.specs.Families.{IsSort, IsFamily, family_of, Refuses};
+ghost use Rattle.lq_env.specs.Environments.{declared_of, IsEnv, env_of, Adds, Extends};
+ghost use Rattle.lq_env.specs.Inductive.{Passes, HasNames, texts_of, firsts, among, AreEliminatorNames, AreFree, IsReady, constructors_declared, eliminators_declared, family_declared};
 
 use crate::environment::{Declared, Entry, Env, Sorts};
 use crate::family::{EnvFault, Family};
 use crate::made::FamilyTypes;
+use crate::making::make_types;
 use crate::positivity::constructors_fault;
 use indexmap::IndexSet;
 use lq_terms::{Bank, NameId, NoMemory, TermId};
@@ -135,6 +136,29 @@ fn refuse_constructors(bank: &Bank<'_>, family: &Family) -> Result<(), EnvFault>
     }
 }
 
+/// The names of a family's eliminators, and what the family stores. Taken names are refused first, then
+/// what the tests on the constructors refuse, then types beyond the limits.
+fn prepare(
+    bank: &mut Bank<'_>,
+    env: &Env,
+    family: &Family,
+    sorts: &[Sort],
+) -> Result<(Vec<(NameId, Sort)>, FamilyTypes), EnvFault>
+    requires env { IsEnv bank.old env.now }
+    requires family { IsFamily bank.old family.now }
+    ensures ready { IfOk result (λ p. IsReady bank.new (env_of bank.old env.now) (family_of bank.old family.now) sorts.now p.0.items p.1) }
+    ensures same { IfOk result (λ p. firsts p.1.constructors.items ≡ firsts family.now.constructors) }
+    ensures refused { IfErr result (λ e. Refuses bank.new e (family_fault (env_of bank.old env.now) (family_of bank.old family.now) sorts.now)) }
+    ensures grows { Grows bank.old bank.new }
+{
+    let eliminators = eliminator_names(bank, family.name)?;
+    let names = declared_names(bank.allocator(), family, &eliminators)?;
+    refuse_taken(bank, env, &names)?;
+    refuse_constructors(bank, family)?;
+    let types = make_types(bank, family, sorts)?;
+    Ok((eliminators, types))
+}
+
 impl Env {
     /// Constructors behind the others, numbered from 0. After want of memory some may stand there.
     fn insert_constructors(
@@ -213,5 +237,38 @@ impl Env {
         self.insert(name, declared)?;
         self.insert_constructors(name, &constructors)?;
         self.insert_eliminators(name, eliminators)
+    }
+
+    /// Appends a family, its constructors and its eliminators, those into `sorts` permitted. Refused are,
+    /// in this order: the first taken name of the family, its constructors and its eliminators; what the
+    /// tests on the constructors refuse, per constructor its arguments from left to right and then its
+    /// result; and the first stored type that is beyond the limits, of the family's, the constructors'
+    /// whole types and the permitted eliminators'. After a refusal the environment is as before; the
+    /// bank may have grown.
+    pub fn add_inductive(
+        &mut self,
+        bank: &mut Bank<'_>,
+        family: Family,
+        sorts: &[Sort],
+    ) -> Result<(), EnvFault>
+        requires env { IsEnv bank.old self.old }
+        requires family { IsFamily bank.old family }
+        requires sorts { AllByRecursion IsSort sorts.now }
+        ensures answer { Adds bank.new result self.new (add_inductive (env_of bank.old self.old) (family_of bank.old family) sorts.now) }
+        ensures extends { OnOk result (Extends self.old self.new) }
+        ensures kept { OnErr result (self.new ≡ self.old) }
+        ensures grows { Grows bank.old bank.new }
+    {
+        let (eliminators, types) = prepare(bank, self, &family, sorts)?;
+        let sorts = Sorts::from_slice(bank.allocator(), sorts)?;
+        let mark = self.mark();
+        if self
+            .insert_family(family, sorts, types, &eliminators)
+            .is_err()
+        {
+            self.undo(mark);
+            return Err(EnvFault::NoMemory);
+        }
+        Ok(())
     }
 }
