@@ -18,3 +18,4 @@ mod telescopes;
 pub use environment::{Declared, Entry, Env, EnvMark, Sorts};
 pub use family::{Constructors, EnvFault, Family};
 pub use made::{FamilyRules, Made};
+pub use stored::constructor_type;

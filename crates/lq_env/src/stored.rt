@@ -68,7 +68,7 @@ pub(crate) fn family_type(bank: &mut Bank<'_>, family: &Family) -> Result<TermId
 
 /// A constructor's whole type, by its type under the parameters: the products over them. It is refused as too large or
 /// too deep exactly where it passes that limit.
-pub(crate) fn constructor_type(
+pub fn constructor_type(
     bank: &mut Bank<'_>,
     family: &Family,
     kind: TermId,
