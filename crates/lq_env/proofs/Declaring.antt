@@ -20,7 +20,7 @@ use Rattle.lq_env.specs.declared.made.FamilyTypes.{FamilyTypes}
 use Rattle.lq_env.specs.Families.{constructors_of, family_of, HasConstructor, HasFamily, IsFamily, Refuses, Stores}
 use Rattle.lq_env.specs.Environments.{declared_of, named_of, env_of, fault_in, IsStored, AreEliminators, AreRules, IsEnv, Extends}
 use Rattle.lq_env.specs.Inductive.{HasNames, texts_of, firsts, eliminator_named, eliminator_for, AreEliminatorNames, AreFree, constructors_declared, eliminators_declared, AreConstructors, AreTypes, IsReady}
-use Rattle.lq_env.proofs.Families.{family_of-grown, IsFamily-grown}
+use Rattle.lq_env.proofs.Families.{family_of-grown, HasFamily-grown}
 use Rattle.lq_env.proofs.Lookups.{name_same}
 use Rattle.lq_terms.proofs.Growth.{Grows-trans}
 use Rattle.lq_env.proofs.Grown.{env_of-grown, IsStored-grown, each_stored-grown}
@@ -207,13 +207,13 @@ are_types old b c d e g h i j f p ss t k l m n =
     }
 
 -- the names of a family, in a bank that has grown by those of its eliminators
-module _ (old b : Terms) (g : Grows old b) (ds : List (NameId × Declared)) (p : IsEnv old ds) (f : Family) (q : IsFamily old f) (es : List (NameId × Universe)) (n : AreEliminatorNames b (text_of old f.name) es) where
+module _ (old b : Terms) (g : Grows old b) (ds : List (NameId × Declared)) (p : IsEnv old ds) (f : Family) (q : HasFamily old f) (es : List (NameId × Universe)) (n : AreEliminatorNames b (text_of old f.name) es) where
   pub ready_has : HasNames b (f.name ∷ firsts f.constructors ++ firsts es)
-  ready_has = declared_have b f es (IsFamily-grown old b g f q).has n.has
+  ready_has = declared_have b f es (HasFamily-grown old b g f q) n.has
 
   pub ready_texts : texts_of b (f.name ∷ firsts f.constructors ++ firsts es) ≡ declared_names (family_of old f)
   ready_texts =
-      declared_texts b f es (subst (λ c. AreEliminatorNames b c es) (sym (g.text f.name q.has.name)) n) ∙ ap declared_names (family_of-grown old b g f q.has)
+      declared_texts b f es (subst (λ c. AreEliminatorNames b c es) (sym (g.text f.name q.name)) n) ∙ ap declared_names (family_of-grown old b g f q)
 
   pub ready_taken : first_taken (names_of (env_of b ds)) (texts_of b (f.name ∷ firsts f.constructors ++ firsts es)) ≡ first_taken (names_of (env_of old ds)) (declared_names (family_of old f))
   ready_taken = ap₂ (λ env xs. first_taken (names_of env) xs) (env_of-grown old b g ds p) ready_texts

@@ -196,7 +196,7 @@ module _ (old new : Terms) (g : Grows old new) (ds : List (NameId × Declared)) 
       subst (λ zs. AreFree ds (f.name ∷ zs ++ firsts xs)) (sym e)
       (subst (λ zs. AreFree ds (f.name ∷ firsts f.constructors ++ firsts zs)) (sym h)
       (free_names new ds (names_of (env_of old ds)) (f.name ∷ firsts f.constructors ++ firsts es) (λ y k. ap (λ env. is_listed (names_of env) y) (env_of-grown old new g ds p) ∙ k)
-      (ap (first_taken (names_of (env_of old ds))) (ready_texts old new g ds p f q es r.names) ∙ r.new)))
+      (ap (first_taken (names_of (env_of old ds))) (ready_texts old new g ds p f q.has es r.names) ∙ r.new)))
 
 -- a refusal of what comes before
 pub refused : (bank : Terms) (r : Result (Unit {0}) EnvFault) (e : EnvFault) (new : List (NameId × Declared)) (env : Environment) (f : TreeFamily) (ss : List Universe) → IsErrAnd r (λ y. y ≡ e) → Refuses bank e (family_fault env f ss)

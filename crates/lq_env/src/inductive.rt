@@ -4,8 +4,8 @@ ghost use Rattle.std.specs.Prelude.{◌≡◌, ◌<◌, ◌||◌, is_some, false
 ghost use Rattle.std.specs.List.{AllByRecursion};
 ghost use Rattle.lq_trees.specs.Tree.{Name};
 ghost use Rattle.lq_terms.specs.Terms.{HasName, IsName, Grows, text_of, tree_of};
-ghost use Rattle.lq_calculus.specs.Declarations.{sorts, permits, eliminator_name, first_taken, names_of, constructors_fault, family_fault, add_inductive};
-ghost use Rattle.lq_env.specs.Families.{IsSort, IsFamily, family_of, Refuses};
+ghost use Rattle.lq_calculus.specs.Declarations.{sorts, permits, eliminator_name, first_taken, declared_names, names_of, constructors_fault, family_fault, add_inductive};
+ghost use Rattle.lq_env.specs.Families.{IsSort, HasFamily, IsFamily, family_of, Refuses};
 ghost use Rattle.lq_env.specs.Environments.{declared_of, IsEnv, env_of, Adds, Extends};
 ghost use Rattle.lq_env.specs.Inductive.{Passes, HasNames, texts_of, firsts, among, AreEliminatorNames, AreFree, IsReady, constructors_declared, eliminators_declared, family_declared};
 
@@ -123,6 +123,19 @@ fn refuse_taken(bank: &Bank<'_>, env: &Env, names: &[NameId]) -> Result<(), EnvF
         }
     }
     Ok(())
+}
+
+/// Refuses the first of the names that a family declares which is declared already or stands twice: its own,
+/// its constructors', its eliminators'. The bank may grow by names.
+pub fn refuse_taken_names(bank: &mut Bank<'_>, env: &Env, family: &Family) -> Result<(), EnvFault>
+    requires env { IsEnv bank.old env.now }
+    requires family { HasFamily bank.old family.now }
+    ensures answer { Passes bank.new result (first_taken (names_of (env_of bank.old env.now)) (declared_names (family_of bank.old family.now))) }
+    ensures grows { Grows bank.old bank.new }
+{
+    let eliminators = eliminator_names(bank, family.name)?;
+    let names = declared_names(bank.allocator(), family, &eliminators)?;
+    refuse_taken(bank, env, &names)
 }
 
 /// Refuses a family whose constructors do not pass the tests.

@@ -17,5 +17,6 @@ mod telescopes;
 
 pub use environment::{Declared, Entry, Env, EnvMark, Sorts};
 pub use family::{Constructors, EnvFault, Family};
+pub use inductive::refuse_taken_names;
 pub use made::{FamilyRules, Made};
-pub use stored::constructor_type;
+pub use stored::{constructor_type, family_type};

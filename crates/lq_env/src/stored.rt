@@ -55,7 +55,7 @@ pub(crate) fn under_parameters(
 
 /// A family's type: the products over its parameters and indices into its sort. It is refused as too large or
 /// too deep exactly where it passes that limit.
-pub(crate) fn family_type(bank: &mut Bank<'_>, family: &Family) -> Result<TermId, EnvFault>
+pub fn family_type(bank: &mut Bank<'_>, family: &Family) -> Result<TermId, EnvFault>
     requires { IsFamily bank.old family.now }
     ensures answer { Stores bank.new result (family_type (family_of bank.old family.now)) }
     ensures grows { Grows bank.old bank.new }
