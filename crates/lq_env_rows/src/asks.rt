@@ -4,13 +4,12 @@ ghost use Rattle.std.specs.Prelude.{◌≡◌, IfOk, IfSome};
 ghost use Rattle.lq_terms.specs.Terms.{HasName, HasTerm, Grows};
 ghost use Rattle.lq_env.specs.Environments.{IsEnv};
 
-use crate::families::{Written, declare, declare_all, define, enumerate};
-use crate::prelude::FAMILIES;
-use crate::terms::{RowFault, build};
-use crate::written::is_sort;
 use lq_env::{Entry, Env, EnvFault};
 use lq_terms::{Bank, NameId, NoMemory, Rules, TermId, same};
 use lq_trees::Sort;
+use lq_words::{
+    FAMILIES, RowFault, Written, build, declare, declare_all, define, enumerate, is_sort,
+};
 use std::alloc::Global;
 
 /// A fault as a row writes it.
@@ -63,7 +62,7 @@ fn begin(bank: &mut Bank<'_>, env: &mut Env) -> Result<(), RowFault>
 }
 
 /// What rows begin with, and a name.
-#[tactic(auto, using(crate::proofs::Environments::growing))]
+#[tactic(auto, using(lq_words::proofs::Environments::growing))]
 fn start<'b>(alloc: Global, name: &str) -> Result<Started<'b>, RowFault>
     ensures env { IfOk result (λ s. IsEnv s.bank s.env) }
     ensures name { IfOk result (λ s. HasName s.bank s.name) }
@@ -85,7 +84,7 @@ fn kind(bank: &Bank<'_>, env: &Env, name: NameId) -> Option<TermId>
 }
 
 /// Whether a name has that type; none where none is written.
-#[tactic(auto, using(crate::proofs::Environments::growing))]
+#[tactic(auto, using(lq_words::proofs::Environments::growing))]
 pub(crate) fn has_kind(alloc: Global, name: &str, wanted: &str) -> Result<bool, RowFault> {
     let mut row = start(alloc, name)?;
     if wanted.is_empty() {
@@ -118,7 +117,7 @@ fn eliminator(bank: &Bank<'_>, env: &Env, family: NameId, into: Sort) -> Result<
 }
 
 /// Whether the eliminator of a family into a sort has the type that is written so.
-#[tactic(auto, using(crate::proofs::Environments::growing))]
+#[tactic(auto, using(lq_words::proofs::Environments::growing))]
 pub(crate) fn has_eliminator(
     alloc: Global,
     family: &str,

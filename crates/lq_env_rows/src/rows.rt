@@ -4,10 +4,9 @@ use crate::asks::{
     Told, declares, enumerates, has_body, has_counts, has_eliminator, has_kind, has_rule,
     is_closed_twice, is_constant_once, is_forbidden, is_opened_once, is_refused, is_undone,
 };
-use crate::families::Written;
-use crate::terms::RowFault;
 use lq_env::EnvFault;
 use lq_trees::Sort;
+use lq_words::{RowFault, Written};
 use std::test::Fail;
 
 /// Names with their closed types; none of eliminators and of what is not declared.

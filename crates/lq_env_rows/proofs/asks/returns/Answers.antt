@@ -1,4 +1,4 @@
-use Rattle.lq_env_rows.proofs.Environments.{mark_within}
+use Rattle.lq_words.proofs.Environments.{mark_within}
 use Rattle.lq_env_rows.proofs.asks.returns.Goals as goal
 
 pub undo-requires : goal.undo-requires
