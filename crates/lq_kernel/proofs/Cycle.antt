@@ -1,207 +1,278 @@
 -- What the functions of inference tell, by what those that they call tell.
-use Rattle.std.proofs.Common.{◌≡◌, ◌∙◌, ◌<◌, ◌≤◌, ◌+◌, ℕ, suc, refl, sym, ap, ap₂, subst, arith, List, [], ◌∷◌, ◌++◌, Option, Some, None, Result, Ok, Err}
+use Rattle.std.proofs.Common.{◌≡◌, ◌∙◌, ◌+◌, ℕ, suc, refl, sym, ap, subst, List, [], ◌∷◌, ◌++◌, Some, None, Result, Ok}
 use Rattle.std.specs.Result.{IsErrAnd}
 use Rattle.lq_trees.specs.declared.Sort.{Sort as Universe}
-use Rattle.lq_trees.specs.declared.Fit.{Fit}
 use Rattle.lq_trees.specs.Tree.{Name, Tree, Context}
-use Rattle.lq_trees.specs.Tree.Tree.{Sort, Prod, Lam}
+use Rattle.lq_trees.specs.Tree.Tree.{Rel, Var, Sort, Prod, Lam, Let, App, Const, Ind, Ctor, Elim, Evar}
 use Rattle.lq_trees.specs.Change.{close}
+use Rattle.lq_trees.specs.Change.{subst as put_in}
 use Rattle.lq_trees.specs.Index.{Within}
-use Rattle.lq_trees.specs.Same.{Same}
-use Rattle.lq_trees.specs.Size.{size, fit}
-use Rattle.lq_trees.specs.Fresh.{fresh, opened, under}
-use Rattle.lq_trees.specs.Ticks.{gives, ◌>>=◌}
-use Rattle.lq_terms.specs.declared.nodes.NameId.{NameId}
+use Rattle.lq_trees.specs.Size.{size}
+use Rattle.lq_trees.specs.Fresh.{fresh, opened, under, under_let}
+use Rattle.lq_trees.specs.Ticks.{gives, tick, ◌>>=◌, done, failed, steps_out, ComesTo}
+use Rattle.lq_trees.proofs.TickLaws.{bind_bind}
+use Rattle.lq_trees.proofs.Outcomes.{comes_gives, comes_fails, comes_out}
+use Rattle.lq_trees.proofs.Reach.{within-subst, within-close}
 use Rattle.lq_terms.specs.declared.nodes.TermId.{TermId}
-use Rattle.lq_terms.specs.declared.nodes.Hypothesis.{Hypothesis}
-use Rattle.lq_terms.specs.declared.change.SizeFault.{SizeFault}
-use Rattle.lq_terms.specs.Terms.{Terms, HasName, HasTerm, IsTerm, IsName, Grows, text_of, tree_of}
-use Rattle.lq_terms.specs.Contexts.{hypothesis_of, context_of}
-use Rattle.lq_terms.specs.Changes.{Answers as Changed}
-use Rattle.lq_terms.proofs.Growth.{Grows-trans, IsName-grown}
-use Rattle.lq_calculus.specs.Declarations.{Env as Environment, rules_of}
+use Rattle.lq_terms.specs.declared.nodes.Node.{Node}
+use Rattle.lq_terms.specs.Terms.{Terms, IsTerm, node_tree, tree_of}
+use Rattle.lq_calculus.specs.Declarations.{Env as Environment}
 use Rattle.lq_calculus.specs.Typing.{product_sort}
-use Rattle.lq_calculus.specs.Checking.{KernelFault as Fault, Kernel, not_a_sort, mismatch, fitting, as_sort, needed_form, infer, sort_of, check}
-use Rattle.lq_kernel.specs.declared.environment.Constant.{Constant}
+use Rattle.lq_calculus.specs.Checking.{Kernel, has_variable, fitting, as_sort, as_product, needed_form, matching, infer, sort_of, check}
 use Rattle.lq_kernel.specs.declared.faults.KernelFault.{KernelFault}
-use Rattle.lq_kernel.specs.Endings.{EndsAs}
-use Rattle.lq_kernel.specs.Plain.{IsPlain, IsPlainTerm, IsPlainHypothesis, IsPlainContext, IsPlainEnv}
-use Rattle.lq_kernel.specs.Environments.{env_of}
 use Rattle.lq_kernel.specs.Answers.{Refuses, Checks}
-use Rattle.lq_kernel.specs.Steps.{Types, Sorts, TypesUnder, Fitted, IsSortOr, limit_fault}
-use Rattle.lq_kernel.proofs.PlainTrees.{Still, still_under, plain-opened, within-opened, size-opened, plain-close, fit-close, plain-product, within-product}
-use Rattle.lq_kernel.proofs.Inferring.{sort_ends, sort_stops, sort_of_ends, sort_of_stops, check_ends, check_stops, matching_ends, matching_stops, domain_stops, rest_stops, sort_rest_stops, product_ends, argument_stops, body_stops, function_ends}
-use Rattle.lq_kernel.proofs.Grown.{IsPlainTerm-grown, IsPlainHypothesis-grown, IsPlainContext-grown, IsPlainEnv-grown, context_of-grown, env_of-grown, context_of-push, Refuses-grown, refuses_by, still}
-use Rattle.lq_kernel.proofs.Typed.{fitted_ends, types_by}
+use Rattle.lq_kernel.specs.Steps.{IsType, Types, Sorts, Products, Fitted, product_of, behind, inside_of}
+use Rattle.lq_kernel.proofs.Goes.{Goes, goes_then, goes_on, goes_same, goes_tick, refuses_goes, refuses_first, types_goes, sorts_goes, checks_goes, products_goes, err_out}
+use Rattle.lq_kernel.proofs.FormLaws.{fitted_types}
+use Rattle.lq_kernel.proofs.Trees.{size-opened, within-product}
 
--- what is returned where a call was refused
-pub err_out : {A : Type 0} (P : Result A KernelFault → Type 0) (r : Result A KernelFault) (e : KernelFault) → IsErrAnd r (λ y. y ≡ e) → P (Err e) → P r
-err_out P (Ok a) e h p = absurd h
-err_out P (Err y) e h p = subst (λ z. P (Err z)) (sym h) p
+-- the sort of a term, the product of a function's type, the check of a term
+module _ (E : Environment) (G : Context) (T : Tree) (bank : Terms) (b left : ℕ) where
+  pub sorts_stop : (r : Result Universe KernelFault) (e : KernelFault) → IsErrAnd r (λ y. y ≡ e) → Refuses bank e (λ n. infer E n G T) b left → Sorts bank r (λ n. sort_of E n G T) b left
+  unfolding sort_of
+  sorts_stop r e i h = err_out (λ z. Sorts bank z (λ n. sort_of E n G T) b left) r e i (refuses_first bank e (λ n. infer E n G T) (λ K n. needed_form E n G K >>= as_sort) b left h)
 
--- a refusal that is handed on
-pub types_out : (bank : Terms) (f : ℕ → Kernel Tree) (r : Result TermId KernelFault) (e : KernelFault) → IsErrAnd r (λ y. y ≡ e) → Refuses bank e f → Types bank r f
-types_out bank f r e i h = err_out (λ z. Types bank z f) r e i h
+  sort_then : (K : Tree) (c : ℕ) → ComesTo (λ n. infer E n G T) b (done K c) → Goes Universe (λ n. sort_of E n G T) b (λ n. needed_form E n G K >>= as_sort) c
+  unfolding sort_of
+  sort_then K c h = goes_then (λ n. infer E n G T) (λ K n. needed_form E n G K >>= as_sort) b K c h
 
--- what is said of an environment, a context, a name and two terms at a bank that has grown, as said at the old one
-pub moved :
-    (old mid : Terms) (env : List (NameId × Constant)) (hs ks : List Hypothesis) (b : NameId) (k t : TermId) → Grows old mid → IsPlainEnv old env → IsPlainContext old hs → ks ≡ hs
-    → HasName old b → HasTerm old k → HasTerm old t → (P : Environment → Context → Name → Tree → Tree → Type 0)
-    → P (env_of mid env) (context_of mid ks) (text_of mid b) (tree_of mid k) (tree_of mid t) → P (env_of old env) (context_of old hs) (text_of old b) (tree_of old k) (tree_of old t)
-moved old mid env hs ks b k t g p q e hb hk ht P h =
-    subst (λ z. P z (context_of old hs) (text_of old b) (tree_of old k) (tree_of old t)) (env_of-grown old mid g env p)
-    (subst (λ z. P (env_of mid env) z (text_of old b) (tree_of old k) (tree_of old t)) (ap (context_of mid) e ∙ context_of-grown old mid g hs q)
-    (subst (λ z. P (env_of mid env) (context_of mid ks) z (tree_of old k) (tree_of old t)) (g.text b hb)
-    (subst (λ z. P (env_of mid env) (context_of mid ks) (text_of mid b) z (tree_of old t)) (g.tree k hk)
-    (subst (λ z. P (env_of mid env) (context_of mid ks) (text_of mid b) (tree_of mid k) z) (g.tree t ht) h))))
+  pub sorts_form_stop : (K : Tree) (c : ℕ) (r : Result Universe KernelFault) (e : KernelFault) → IsErrAnd r (λ y. y ≡ e) → ComesTo (λ n. infer E n G T) b (done K c) → Refuses bank e (λ n. needed_form E n G K) c left → Sorts bank r (λ n. sort_of E n G T) b left
+  sorts_form_stop K c r e i h k =
+      err_out (λ z. Sorts bank z (λ n. sort_of E n G T) b left) r e i
+      (refuses_goes bank e (λ n. sort_of E n G T) b (λ n. needed_form E n G K >>= as_sort) c left (sort_then K c h) (refuses_first bank e (λ n. needed_form E n G K) (λ x n. as_sort x) c left k))
 
--- a term that was made
-pub types_made : (bank : Terms) (t : TermId) (tree : Tree) (f : ℕ → Kernel Tree) → IsTerm bank t tree → IsPlain tree → Within 0 tree → fit tree ≡ Fit.Fits → EndsAs f (Ok tree) → Types bank (Ok t) f
-types_made bank t tree f made p w e h =
-    (record { has = made.has; plain = subst IsPlain (sym made.is) p; below = subst (Within 0) (sym made.is) w }, ap fit made.is ∙ e, subst (λ z. EndsAs f (Ok z)) (sym made.is) h)
+  pub sorts_end : (K H : Tree) (c : ℕ) (r : Result Universe KernelFault) → ComesTo (λ n. infer E n G T) b (done K c) → ComesTo (λ n. needed_form E n G K) c (done H left) → Sorts bank r (λ n. as_sort H) left left → Sorts bank r (λ n. sort_of E n G T) b left
+  sorts_end K H c r h k m =
+      sorts_goes bank r (λ n. sort_of E n G T) b (λ n. needed_form E n G K >>= as_sort) c left (sort_then K c h)
+      (sorts_goes bank r (λ n. needed_form E n G K >>= as_sort) c (λ n. as_sort H) left left (goes_then (λ n. needed_form E n G K) (λ x n. as_sort x) c H left k) m)
 
-module _ (E : Environment) (G : Context) (T : Tree) (bank : Terms) where
-  -- the sort of a term
-  pub sorts_stop : (r : Result Universe KernelFault) (e : KernelFault) → IsErrAnd r (λ y. y ≡ e) → Refuses bank e (λ n. infer E n G T) → Sorts bank r (λ n. sort_of E n G T)
-  sorts_stop r e i h = err_out (λ z. Sorts bank z (λ n. sort_of E n G T)) r e i (refuses_by bank e (λ n. infer E n G T) (λ n. sort_of E n G T) (sort_of_stops E G T) h)
+  pub products_stop : (r : Result (TermId × TermId) KernelFault) (e : KernelFault) → IsErrAnd r (λ y. y ≡ e) → Refuses bank e (λ n. infer E n G T) b left → Products bank r (λ n. product_of E n G T) b left
+  unfolding product_of
+  products_stop r e i h = err_out (λ z. Products bank z (λ n. product_of E n G T) b left) r e i (refuses_first bank e (λ n. infer E n G T) (λ K n. needed_form E n G K >>= as_product) b left h)
 
-  pub sorts_end : (t : TermId) (r : Result Universe KernelFault) → Still (rules_of E) G → Types bank (Ok t) (λ n. infer E n G T) → IsSortOr bank r t → Sorts bank r (λ n. sort_of E n G T)
-  sorts_end t (Ok s) st h i = sort_of_ends E G T (tree_of bank t) (Ok s) h.2 (sort_ends E G st (tree_of bank t) s h.0.plain h.1 i)
-  sorts_end t (Err (KernelFault.NotASort u)) st h i =
-      subst (λ z. Refuses bank (KernelFault.NotASort z) (λ n. sort_of E n G T)) (sym i.0)
-      (h.0.has, sort_of_ends E G T (tree_of bank t) (Err (not_a_sort (tree_of bank t))) h.2 (sort_stops E G st (tree_of bank t) h.0.plain h.1 i.1))
-  sorts_end t (Err (KernelFault.Unbound x)) st h i = absurd i
-  sorts_end t (Err (KernelFault.NotAProduct u)) st h i = absurd i
-  sorts_end t (Err (KernelFault.Mismatch u v)) st h i = absurd i
-  sorts_end t (Err KernelFault.NoSortAbove) st h i = absurd i
-  sorts_end t (Err (KernelFault.HasVariable n)) st h i = absurd i
-  sorts_end t (Err KernelFault.StepsOut) st h i = absurd i
-  sorts_end t (Err (KernelFault.TooBig x k)) st h i = absurd i
-  sorts_end t (Err KernelFault.TooLarge) st h i = absurd i
-  sorts_end t (Err KernelFault.TooDeep) st h i = absurd i
-  sorts_end t (Err (KernelFault.Env e)) st h i = absurd i
-  sorts_end t (Err KernelFault.NoMemory) st h i = absurd i
+  product_then : (K : Tree) (c : ℕ) → ComesTo (λ n. infer E n G T) b (done K c) → Goes (Tree × Tree) (λ n. product_of E n G T) b (λ n. needed_form E n G K >>= as_product) c
+  unfolding product_of
+  product_then K c h = goes_then (λ n. infer E n G T) (λ K n. needed_form E n G K >>= as_product) b K c h
 
-  -- the check of a term
-  pub checks_stop : (A : Tree) (r : Result (Unit {0}) KernelFault) (e : KernelFault) → IsErrAnd r (λ y. y ≡ e) → Refuses bank e (λ n. infer E n G T) → Checks bank r (λ n. check E n G T A)
-  checks_stop A r e i h = err_out (λ z. Checks bank z (λ n. check E n G T A)) r e i (refuses_by bank e (λ n. infer E n G T) (λ n. check E n G T A) (check_stops E G T A) h)
+  pub products_form_stop : (K : Tree) (c : ℕ) (r : Result (TermId × TermId) KernelFault) (e : KernelFault) → IsErrAnd r (λ y. y ≡ e) → ComesTo (λ n. infer E n G T) b (done K c) → Refuses bank e (λ n. needed_form E n G K) c left → Products bank r (λ n. product_of E n G T) b left
+  products_form_stop K c r e i h k =
+      err_out (λ z. Products bank z (λ n. product_of E n G T) b left) r e i
+      (refuses_goes bank e (λ n. product_of E n G T) b (λ n. needed_form E n G K >>= as_product) c left (product_then K c h) (refuses_first bank e (λ n. needed_form E n G K) (λ x n. as_product x) c left k))
 
-  pub checks_same : (A : Tree) (t : TermId) → Still (rules_of E) G → IsPlain A → Types bank (Ok t) (λ n. infer E n G T) → Same (tree_of bank t) A → EndsAs (λ n. check E n G T A) (Ok tt)
-  checks_same A t st p h s = check_ends E G T A (tree_of bank t) (Ok tt) h.2 (matching_ends E G st (tree_of bank t) A h.0.plain p s)
+  pub products_end : (K H : Tree) (c : ℕ) (r : Result (TermId × TermId) KernelFault) → ComesTo (λ n. infer E n G T) b (done K c) → ComesTo (λ n. needed_form E n G K) c (done H left) → Products bank r (λ n. as_product H) left left → Products bank r (λ n. product_of E n G T) b left
+  products_end K H c r h k m =
+      products_goes bank r (λ n. product_of E n G T) b (λ n. needed_form E n G K >>= as_product) c left (product_then K c h)
+      (products_goes bank r (λ n. needed_form E n G K >>= as_product) c (λ n. as_product H) left left (goes_then (λ n. needed_form E n G K) (λ x n. as_product x) c H left k) m)
 
-  pub checks_differ :
-      (A : Tree) (t : TermId) → Still (rules_of E) G → IsPlain A → Types bank (Ok t) (λ n. infer E n G T) → ¬ Same (tree_of bank t) A → EndsAs (λ n. check E n G T A) (Err (mismatch (tree_of bank t) A))
-  checks_differ A t st p h s = check_ends E G T A (tree_of bank t) (Err (mismatch (tree_of bank t) A)) h.2 (matching_stops E G st (tree_of bank t) A h.0.plain p s)
+  pub checks_stop : (U : Tree) (r : Result (Unit {0}) KernelFault) (e : KernelFault) → IsErrAnd r (λ y. y ≡ e) → Refuses bank e (λ n. infer E n G T) b left → Checks bank r (λ n. check E n G T U) b left
+  unfolding check
+  checks_stop U r e i h = err_out (λ z. Checks bank z (λ n. check E n G T U) b left) r e i (refuses_first bank e (λ n. infer E n G T) (λ B n. matching E n G B U) b left h)
 
-module _ (E : Environment) (G : Context) (x : Name) (A B : Tree) (bank : Terms) where
-  -- a product
-  pub product_domain : (r : Result TermId KernelFault) (e : KernelFault) → IsErrAnd r (λ y. y ≡ e) → Refuses bank e (λ n. sort_of E n G A) → Types bank r (λ n. infer E n G (Prod x A B))
-  product_domain r e i h = types_out bank (λ n. infer E n G (Prod x A B)) r e i (refuses_by bank e (λ n. sort_of E n G A) (λ n. infer E n G (Prod x A B)) (domain_stops E G x A B) h)
+  pub checks_end : (U B : Tree) (c : ℕ) (r : Result (Unit {0}) KernelFault) → ComesTo (λ n. infer E n G T) b (done B c) → Checks bank r (λ n. matching E n G B U) c left → Checks bank r (λ n. check E n G T U) b left
+  unfolding check
+  checks_end U B c r h k = checks_goes bank r (λ n. check E n G T U) b (λ n. matching E n G B U) c left (goes_then (λ n. infer E n G T) (λ B n. matching E n G B U) b B c h) k
 
-  pub product_rest : (s : Universe) (r : Result TermId KernelFault) (e : KernelFault) → IsErrAnd r (λ y. y ≡ e) → EndsAs (λ n. sort_of E n G A) (Ok s) → TypesUnder bank (Err e) E G x A B → Types bank r (λ n. infer E n G (Prod x A B))
-  product_rest s r e i k h = types_out bank (λ n. infer E n G (Prod x A B)) r e i (refuses_by bank e (λ n. infer E n (under G (fresh G x) A) (opened (fresh G x) B)) (λ n. infer E n G (Prod x A B)) (λ f. rest_stops E G x A B s f k) h)
+-- a node: its tick, and what is behind it
+pub infer_tick : (E : Environment) (G : Context) (T : Tree) (n : ℕ) → infer E (suc n) G T ≡ tick (inside_of E G T n)
+unfolding infer inside_of behind
+infer_tick E G (Rel i) n = refl
+infer_tick E G (Var x) n = refl
+infer_tick E G (Sort s) n = refl
+infer_tick E G (Prod x A B) n = refl
+infer_tick E G (Lam x A t) n = refl
+infer_tick E G (Let x v A t) n = refl
+infer_tick E G (App f a) n = refl
+infer_tick E G (Const c) n = refl
+infer_tick E G (Ind c) n = refl
+infer_tick E G (Ctor c k) n = refl
+infer_tick E G (Elim c s) n = refl
+infer_tick E G (Evar k ts) n = refl
 
-  pub product_last :
-      (s : Universe) (r : Result TermId KernelFault) (e : KernelFault) (y : NameId) (t : TermId) → IsErrAnd r (λ y. y ≡ e) → Still (rules_of E) G → EndsAs (λ n. sort_of E n G A) (Ok s) → TypesUnder bank (Ok (y, t)) E G x A B → IsSortOr bank (Err e) t
-      → Types bank r (λ n. infer E n G (Prod x A B))
-  product_last s r e y t o st k h i =
-      types_out bank (λ n. infer E n G (Prod x A B)) r e o (refuses_by bank e (λ n. sort_of E n (under G (fresh G x) A) (opened (fresh G x) B)) (λ n. infer E n G (Prod x A B)) at (sorts_end E (under G (fresh G x) A) (opened (fresh G x) B) bank t (Err e) (still_under (rules_of E) G (fresh G x) A st) h.1 i))
-    where
-      at : (f : Fault) → EndsAs (λ n. sort_of E n (under G (fresh G x) A) (opened (fresh G x) B)) (Err f) → EndsAs (λ n. infer E n G (Prod x A B)) (Err f)
-      at f j = sort_rest_stops E G x A B s f k j
+pub ticked : (E : Environment) (G : Context) (T : Tree) (bank : Terms) (r : Result TermId KernelFault) (b c left : ℕ) → b ≡ c + 1 → Types bank r (inside_of E G T) c left → Types bank r (λ n. infer E n G T) b left
+ticked E G T bank r b c left e h = types_goes bank r (λ n. infer E n G T) b (inside_of E G T) c left (goes_tick (λ n. infer E n G T) (inside_of E G T) b c (infer_tick E G T) e) h
 
-  pub product_made :
-      (new : Terms) (s1 s2 : Universe) (y : NameId) (t made : TermId) → Still (rules_of E) G → EndsAs (λ n. sort_of E n G A) (Ok s1) → TypesUnder bank (Ok (y, t)) E G x A B → IsSortOr bank (Ok s2) t
-      → IsTerm new made (Sort (product_sort s1 s2)) → Types new (Ok made) (λ n. infer E n G (Prod x A B))
-  product_made new s1 s2 y t made st k h i m =
-      types_made new made (Sort (product_sort s1 s2)) (λ n. infer E n G (Prod x A B)) m tt tt refl
-      (product_ends E G x A B s1 s2 (tree_of bank t) k h.1.2
-      (sort_ends E (under G (fresh G x) A) (still_under (rules_of E) G (fresh G x) A st) (tree_of bank t) s2 h.1.0.plain h.1.1 i))
+pub out_of_ticks : (E : Environment) (G : Context) (T : Tree) (b left : ℕ) → b ≡ 0 → left ≡ 0 → ComesTo (λ n. infer E n G T) b steps_out × (left ≡ 0)
+out_of_ticks E G T b left e f = (subst (λ z. ComesTo (λ n. infer E n G T) z steps_out) (sym e) (comes_out (λ n. infer E n G T) (inside_of E G T) (infer_tick E G T)), f)
+
+pub evar_work : (E : Environment) (G : Context) (bank : Terms) (n : Node) (t : TermId) (k : ℕ) (ps : List TermId) (T : Tree) (b : ℕ) → node_tree bank n ≡ tree_of bank t → n ≡ Node.Evar k ps → tree_of bank t ≡ T → ComesTo (inside_of E G T) b (failed (has_variable k) b)
+unfolding inside_of behind infer
+evar_work E G bank n t k ps T b e i f =
+    let is : node_tree bank (Node.Evar k ps) ≡ T = ap (node_tree bank) (sym i) ∙ e ∙ f in
+    subst (λ z. ComesTo (inside_of E G z) b (failed (has_variable k) b)) is (comes_fails (inside_of E G (node_tree bank (Node.Evar k ps))) (has_variable k) b (λ m. refl))
+
+-- a product and an abstraction
+module _ (E : Environment) (G : Context) (x : Name) (A B : Tree) (bank : Terms) (b left : ℕ) where
+  abbrev inner : Context
+  inner = G ++ (record { name = fresh G x; body = None; kind = A } ∷ [])
+
+  abbrev rest : Universe → ℕ → Kernel Tree
+  rest s n = infer E n inner (opened (fresh G x) B) >>= λ L. needed_form E n inner L >>= as_sort >>= λ s2. gives (Sort (product_sort s s2))
+
+  prod_first : (n : ℕ) → inside_of E G (Prod x A B) n ≡ (sort_of E n G A >>= λ s. rest s n)
+  unfolding inside_of behind infer sort_of under
+  prod_first n = sym (bind_bind (infer E n G A) (λ K. needed_form E n G K >>= as_sort) (λ s. rest s n))
+
+  prod_second : (s : Universe) (n : ℕ) → rest s n ≡ (sort_of E n inner (opened (fresh G x) B) >>= λ s2. gives (Sort (product_sort s s2)))
+  unfolding sort_of
+  prod_second s n = sym (bind_bind (infer E n inner (opened (fresh G x) B)) (λ L. needed_form E n inner L >>= as_sort) (λ s2. gives (Sort (product_sort s s2))))
+
+  prod_start : Goes Tree (inside_of E G (Prod x A B)) b (λ n. sort_of E n G A >>= λ s. rest s n) b
+  prod_start = goes_same (inside_of E G (Prod x A B)) (λ n. sort_of E n G A >>= λ s. rest s n) b prod_first
+
+  prod_then : (s : Universe) (c : ℕ) → ComesTo (λ n. sort_of E n G A) b (done s c) → Goes Tree (inside_of E G (Prod x A B)) b (λ n. sort_of E n inner (opened (fresh G x) B) >>= λ s2. gives (Sort (product_sort s s2))) c
+  prod_then s c h =
+      goes_on (inside_of E G (Prod x A B)) (λ n. sort_of E n G A >>= λ s. rest s n) (λ n. sort_of E n inner (opened (fresh G x) B) >>= λ s2. gives (Sort (product_sort s s2))) b b c prod_start
+      (goes_on (λ n. sort_of E n G A >>= λ s. rest s n) (rest s) (λ n. sort_of E n inner (opened (fresh G x) B) >>= λ s2. gives (Sort (product_sort s s2))) b c c (goes_then (λ n. sort_of E n G A) rest b s c h)
+      (goes_same (rest s) (λ n. sort_of E n inner (opened (fresh G x) B) >>= λ s2. gives (Sort (product_sort s s2))) c (prod_second s)))
+
+  pub prod_domain_stops : (r : Result TermId KernelFault) (e : KernelFault) → IsErrAnd r (λ y. y ≡ e) → Refuses bank e (λ n. sort_of E n G A) b left → Types bank r (inside_of E G (Prod x A B)) b left
+  prod_domain_stops r e i h =
+      err_out (λ z. Types bank z (inside_of E G (Prod x A B)) b left) r e i
+      (refuses_goes bank e (inside_of E G (Prod x A B)) b (λ n. sort_of E n G A >>= λ s. rest s n) b left prod_start (refuses_first bank e (λ n. sort_of E n G A) rest b left h))
+
+  pub prod_rest_stops : (s : Universe) (c : ℕ) (r : Result TermId KernelFault) (e : KernelFault) → IsErrAnd r (λ y. y ≡ e) → ComesTo (λ n. sort_of E n G A) b (done s c) → Refuses bank e (λ n. sort_of E n inner (opened (fresh G x) B)) c left
+      → Types bank r (inside_of E G (Prod x A B)) b left
+  prod_rest_stops s c r e i h k =
+      err_out (λ z. Types bank z (inside_of E G (Prod x A B)) b left) r e i
+      (refuses_goes bank e (inside_of E G (Prod x A B)) b (λ n. sort_of E n inner (opened (fresh G x) B) >>= λ s2. gives (Sort (product_sort s s2))) c left (prod_then s c h)
+      (refuses_first bank e (λ n. sort_of E n inner (opened (fresh G x) B)) (λ s2 n. gives (Sort (product_sort s s2))) c left k))
+
+  pub prod_comes : (s1 s2 : Universe) (c : ℕ) → ComesTo (λ n. sort_of E n G A) b (done s1 c) → ComesTo (λ n. sort_of E n inner (opened (fresh G x) B)) c (done s2 left) → ComesTo (inside_of E G (Prod x A B)) b (done (Sort (product_sort s1 s2)) left)
+  prod_comes s1 s2 c h k =
+      prod_then s1 c h (done (Sort (product_sort s1 s2)) left)
+      (goes_then (λ n. sort_of E n inner (opened (fresh G x) B)) (λ s2 n. gives (Sort (product_sort s1 s2))) c s2 left k _ (comes_gives (λ n. gives (Sort (product_sort s1 s2))) (Sort (product_sort s1 s2)) left (λ n. refl)))
+
+  pub prod_ends : (s1 s2 u : Universe) (c : ℕ) (t : TermId) → ComesTo (λ n. sort_of E n G A) b (done s1 c) → ComesTo (λ n. sort_of E n inner (opened (fresh G x) B)) c (done s2 left) → u ≡ product_sort s1 s2 → IsTerm bank t (Sort u)
+      → Types bank (Ok t) (inside_of E G (Prod x A B)) b left
+  prod_ends s1 s2 u c t h k e made =
+      let is : tree_of bank t ≡ Sort (product_sort s1 s2) = made.is ∙ ap (λ z. Sort z) e in
+      subst (λ z. IsType bank t z × ComesTo (inside_of E G (Prod x A B)) b (done z left)) (sym is) (record { term = record { has = made.has; is = is }; within = tt; fits = refl }, prod_comes s1 s2 c h k)
 
   -- an abstraction
-  pub function_domain : (r : Result TermId KernelFault) (e : KernelFault) → IsErrAnd r (λ y. y ≡ e) → Refuses bank e (λ n. sort_of E n G A) → Types bank r (λ n. infer E n G (Lam x A B))
-  function_domain r e i h = types_out bank (λ n. infer E n G (Lam x A B)) r e i (refuses_by bank e (λ n. sort_of E n G A) (λ n. infer E n G (Lam x A B)) (argument_stops E G x A B) h)
+  abbrev body : ℕ → Kernel Tree
+  body n = infer E n inner (opened (fresh G x) B) >>= λ C. fitting (Prod x A (close (fresh G x) C))
 
-  pub function_body : (s : Universe) (r : Result TermId KernelFault) (e : KernelFault) → IsErrAnd r (λ y. y ≡ e) → EndsAs (λ n. sort_of E n G A) (Ok s) → TypesUnder bank (Err e) E G x A B → Types bank r (λ n. infer E n G (Lam x A B))
-  function_body s r e i k h = types_out bank (λ n. infer E n G (Lam x A B)) r e i (refuses_by bank e (λ n. infer E n (under G (fresh G x) A) (opened (fresh G x) B)) (λ n. infer E n G (Lam x A B)) (λ f. body_stops E G x A B s f k) h)
+  lam_first : (n : ℕ) → inside_of E G (Lam x A B) n ≡ (sort_of E n G A >>= λ s. body n)
+  unfolding inside_of behind infer sort_of under
+  lam_first n = sym (bind_bind (infer E n G A) (λ K. needed_form E n G K >>= as_sort) (λ s. body n))
 
-  pub function_made :
-      (new : Terms) (s : Universe) (y : NameId) (t : TermId) (r : Result TermId KernelFault) → IsPlain A → Within 0 A → EndsAs (λ n. sort_of E n G A) (Ok s) → TypesUnder bank (Ok (y, t)) E G x A B
-      → Fitted new r (Prod x A (close (fresh G x) (tree_of bank t))) → Types new r (λ n. infer E n G (Lam x A B))
-  function_made new s y t r p w k h fits =
-      types_by new r (λ n. fitting (Prod x A (close (fresh G x) (tree_of bank t)))) (λ n. infer E n G (Lam x A B)) (λ o j. function_ends E G x A B s (tree_of bank t) o k h.1.2 j)
-      (fitted_ends new r (Prod x A (close (fresh G x) (tree_of bank t))) (plain-product x (fresh G x) A (tree_of bank t) p h.1.0.plain) (within-product x (fresh G x) A (tree_of bank t) w h.1.0.below) fits)
+  lam_start : Goes Tree (inside_of E G (Lam x A B)) b (λ n. sort_of E n G A >>= λ s. body n) b
+  lam_start = goes_same (inside_of E G (Lam x A B)) (λ n. sort_of E n G A >>= λ s. body n) b lam_first
 
--- the close of a type within the limits is within them, so that it is refused for want of memory alone
-pub close_stops :
-    (bank : Terms) (r : Result TermId KernelFault) (e : SizeFault) (y : Name) (body tree : Tree) → IsErrAnd r (λ z. z ≡ limit_fault e) → IsPlain body → fit body ≡ Fit.Fits → Changed bank (Err e) (close y body)
-    → Fitted bank r tree
-close_stops bank r SizeFault.NoMemory y body tree i p f h = err_out (λ z. Fitted bank z tree) r KernelFault.NoMemory i tt
-close_stops bank r SizeFault.TooLarge y body tree i p f h = let k = fit-close y body p in absurd cc
-close_stops bank r SizeFault.TooDeep y body tree i p f h = let k = fit-close y body p in absurd cc
+  lam_then : (s : Universe) (c : ℕ) → ComesTo (λ n. sort_of E n G A) b (done s c) → Goes Tree (inside_of E G (Lam x A B)) b body c
+  lam_then s c h = goes_on (inside_of E G (Lam x A B)) (λ n. sort_of E n G A >>= λ s. body n) body b b c lam_start (goes_then (λ n. sort_of E n G A) (λ s n. body n) b s c h)
 
--- under a binder
-module _ (old named mid : Terms) (env : List (NameId × Constant)) (hs : List Hypothesis) (b y : NameId) (k t u : TermId) (g : Grows old named) (h : Grows named mid) (p : IsPlainEnv old env) (q : IsPlainContext old hs)
-    (hk : IsPlainTerm old 0 k) (ht : IsPlainTerm old 1 t) (name : IsName named y (fresh (context_of old hs) (text_of old b))) (open_is : IsTerm mid u (opened (text_of named y) (tree_of named t))) where
-  pub open_tree : tree_of mid u ≡ opened (fresh (context_of old hs) (text_of old b)) (tree_of old t)
-  open_tree = open_is.is ∙ ap₂ opened name.is (g.tree t ht.has)
+  pub lam_domain_stops : (r : Result TermId KernelFault) (e : KernelFault) → IsErrAnd r (λ y. y ≡ e) → Refuses bank e (λ n. sort_of E n G A) b left → Types bank r (inside_of E G (Lam x A B)) b left
+  lam_domain_stops r e i h =
+      err_out (λ z. Types bank z (inside_of E G (Lam x A B)) b left) r e i
+      (refuses_goes bank e (inside_of E G (Lam x A B)) b (λ n. sort_of E n G A >>= λ s. body n) b left lam_start (refuses_first bank e (λ n. sort_of E n G A) (λ s n. body n) b left h))
 
-  pub open_size : size (tree_of mid u) ≡ size (tree_of old t)
-  open_size = ap size open_tree ∙ size-opened (fresh (context_of old hs) (text_of old b)) (tree_of old t) ht.plain
+  pub lam_body_stops : (s : Universe) (c : ℕ) (r : Result TermId KernelFault) (e : KernelFault) → IsErrAnd r (λ y. y ≡ e) → ComesTo (λ n. sort_of E n G A) b (done s c) → Refuses bank e (λ n. infer E n inner (opened (fresh G x) B)) c left
+      → Types bank r (inside_of E G (Lam x A B)) b left
+  lam_body_stops s c r e i h k =
+      err_out (λ z. Types bank z (inside_of E G (Lam x A B)) b left) r e i
+      (refuses_goes bank e (inside_of E G (Lam x A B)) b body c left (lam_then s c h) (refuses_first bank e (λ n. infer E n inner (opened (fresh G x) B)) (λ C n. fitting (Prod x A (close (fresh G x) C))) c left k))
 
-  pub open_plain : IsPlainTerm mid 0 u
-  open_plain = record {
-    has = open_is.has;
-    plain = subst IsPlain (sym open_tree) (plain-opened (fresh (context_of old hs) (text_of old b)) (tree_of old t) ht.plain);
-    below = subst (Within 0) (sym open_tree) (within-opened (fresh (context_of old hs) (text_of old b)) (tree_of old t) ht.below);
-  }
+  pub lam_ends : (s : Universe) (C : Tree) (c : ℕ) (r : Result TermId KernelFault) → Within 0 A → Within 0 C → ComesTo (λ n. sort_of E n G A) b (done s c) → ComesTo (λ n. infer E n inner (opened (fresh G x) B)) c (done C left) → Fitted bank r (Prod x A (close (fresh G x) C))
+      → Types bank r (inside_of E G (Lam x A B)) b left
+  lam_ends s C c r wa wc h k fits =
+      types_goes bank r (inside_of E G (Lam x A B)) b (λ n. fitting (Prod x A (close (fresh G x) C))) left left
+      (goes_on (inside_of E G (Lam x A B)) body (λ n. fitting (Prod x A (close (fresh G x) C))) b c left (lam_then s c h) (goes_then (λ n. infer E n inner (opened (fresh G x) B)) (λ C n. fitting (Prod x A (close (fresh G x) C))) c C left k))
+      (fitted_types bank r (Prod x A (close (fresh G x) C)) left (within-product x (fresh G x) A C wa wc) fits)
 
-  pub open_hypothesis : IsPlainHypothesis mid (record { name = y; body = None; kind = k })
-  open_hypothesis = record { name = omega (arith, name.has, h.names); bodiless = refl; kind = IsPlainTerm-grown old mid (Grows-trans old named mid g h) 0 k hk }
+-- a local definition
+module _ (E : Environment) (G : Context) (x : Name) (v A B : Tree) (bank : Terms) (b left : ℕ) where
+  abbrev within_let : Context
+  within_let = G ++ (record { name = fresh G x; body = Some v; kind = A } ∷ [])
 
-  under_context : context_of mid (hs ++ record { name = y; body = None; kind = k } ∷ []) ≡ under (context_of old hs) (fresh (context_of old hs) (text_of old b)) (tree_of old k)
-  unfolding under
-  under_context =
-      context_of-push mid hs (record { name = y; body = None; kind = k })
-      ∙ ap₂ (λ G z. G ++ z ∷ []) (context_of-grown old mid (Grows-trans old named mid g h) hs q)
-      (ap₂ (λ n A. record { name = n; body = None; kind = A }) (h.text y name.has ∙ name.is) (h.tree k (omega (arith, hk.has, g.nodes)) ∙ g.tree k hk.has))
+  abbrev let_rest : ℕ → Kernel Tree
+  let_rest n = infer E n within_let (opened (fresh G x) B) >>= λ C. fitting (put_in v (close (fresh G x) C))
 
-  -- what is said of what stands under the binder
-  pub moved_under :
-      (P : Environment → Context → Tree → Type 0) → P (env_of mid env) (context_of mid (hs ++ record { name = y; body = None; kind = k } ∷ [])) (tree_of mid u)
-      → P (env_of old env) (under (context_of old hs) (fresh (context_of old hs) (text_of old b)) (tree_of old k)) (opened (fresh (context_of old hs) (text_of old b)) (tree_of old t))
-  moved_under P i =
-      subst (λ z. P z (under (context_of old hs) (fresh (context_of old hs) (text_of old b)) (tree_of old k)) (opened (fresh (context_of old hs) (text_of old b)) (tree_of old t))) (env_of-grown old mid (Grows-trans old named mid g h) env p)
-      (subst (λ z. P (env_of mid env) z (opened (fresh (context_of old hs) (text_of old b)) (tree_of old t))) under_context
-      (subst (λ z. P (env_of mid env) (context_of mid (hs ++ record { name = y; body = None; kind = k } ∷ [])) z) open_tree i))
+  abbrev let_value : ℕ → Kernel Tree
+  let_value n = infer E n G v >>= λ V. matching E n G V A >>= λ ok. let_rest n
 
-  -- the name of the variable and the type of what stands under it
-  pub under_stops :
-      (new : Terms) (r : Result (NameId × TermId) KernelFault) (e : KernelFault) → IsErrAnd r (λ z. z ≡ e)
-      → Refuses new e (λ n. infer (env_of mid env) n (context_of mid (hs ++ record { name = y; body = None; kind = k } ∷ [])) (tree_of mid u))
-      → TypesUnder new r (env_of old env) (context_of old hs) (text_of old b) (tree_of old k) (tree_of old t)
-  under_stops new r e i j =
-      err_out (λ z. TypesUnder new z (env_of old env) (context_of old hs) (text_of old b) (tree_of old k) (tree_of old t)) r e i (moved_under (λ E G T. Refuses new e (λ n. infer E n G T)) j)
+  let_first : (n : ℕ) → inside_of E G (Let x v A B) n ≡ (sort_of E n G A >>= λ s. let_value n)
+  unfolding inside_of behind infer sort_of under_let
+  let_first n = sym (bind_bind (infer E n G A) (λ K. needed_form E n G K >>= as_sort) (λ s. let_value n))
 
-  pub under_ends :
-      (new : Terms) (v : TermId) → Grows mid new → Types new (Ok v) (λ n. infer (env_of mid env) n (context_of mid (hs ++ record { name = y; body = None; kind = k } ∷ [])) (tree_of mid u))
-      → TypesUnder new (Ok (y, v)) (env_of old env) (context_of old hs) (text_of old b) (tree_of old k) (tree_of old t)
-  under_ends new v i j =
-      (IsName-grown named new y (fresh (context_of old hs) (text_of old b)) (Grows-trans named mid new h i) name, moved_under (λ E G T. Types new (Ok v) (λ n. infer E n G T)) j)
+  let_second : (n : ℕ) → let_value n ≡ (check E n G v A >>= λ ok. let_rest n)
+  unfolding check
+  let_second n = sym (bind_bind (infer E n G v) (λ V. matching E n G V A) (λ ok. let_rest n))
 
--- the name under a binder, by a list of hypotheses that is the same
-pub name_at : (old named : Terms) (hs ks : List Hypothesis) (b y : NameId) → ks ≡ hs → IsName named y (fresh (context_of old ks) (text_of old b)) → IsName named y (fresh (context_of old hs) (text_of old b))
-name_at old named hs ks b y e h = subst (λ z. IsName named y (fresh (context_of old z) (text_of old b))) e h
+  let_start : Goes Tree (inside_of E G (Let x v A B)) b (λ n. sort_of E n G A >>= λ s. let_value n) b
+  let_start = goes_same (inside_of E G (Let x v A B)) (λ n. sort_of E n G A >>= λ s. let_value n) b let_first
 
--- the product over the type under a binder, at the bank before
-pub fitted_at :
-    (old mid new : Terms) (b y : NameId) (k : TermId) (f : Name) (C : Tree) (r : Result TermId KernelFault) → Grows old mid → HasName old b → HasTerm old k → IsName mid y f
-    → Fitted new r (Prod (text_of mid b) (tree_of mid k) (close (text_of mid y) C)) → Fitted new r (Prod (text_of old b) (tree_of old k) (close f C))
-fitted_at old mid new b y k f C r g hb hk name h =
-    subst (λ z. Fitted new r (Prod z (tree_of old k) (close f C))) (g.text b hb)
-    (subst (λ z. Fitted new r (Prod (text_of mid b) z (close f C))) (g.tree k hk)
-    (subst (λ z. Fitted new r (Prod (text_of mid b) (tree_of mid k) (close z C))) name.is h))
+  let_then : (s : Universe) (c : ℕ) → ComesTo (λ n. sort_of E n G A) b (done s c) → Goes Tree (inside_of E G (Let x v A B)) b (λ n. check E n G v A >>= λ ok. let_rest n) c
+  let_then s c h =
+      goes_on (inside_of E G (Let x v A B)) (λ n. sort_of E n G A >>= λ s. let_value n) (λ n. check E n G v A >>= λ ok. let_rest n) b b c let_start
+      (goes_on (λ n. sort_of E n G A >>= λ s. let_value n) let_value (λ n. check E n G v A >>= λ ok. let_rest n) b c c (goes_then (λ n. sort_of E n G A) (λ s n. let_value n) b s c h)
+      (goes_same let_value (λ n. check E n G v A >>= λ ok. let_rest n) c let_second))
 
--- a sort that was made
-pub sort_made : (new : Terms) (made : TermId) (s u : Universe) → u ≡ s → IsTerm new made (Sort u) → IsTerm new made (Sort s)
-sort_made new made s u e h = subst (λ z. IsTerm new made (Sort z)) e h
+  let_last : (s : Universe) (c d : ℕ) → ComesTo (λ n. sort_of E n G A) b (done s c) → ComesTo (λ n. check E n G v A) c (done (tt {0}) d) → Goes Tree (inside_of E G (Let x v A B)) b let_rest d
+  let_last s c d h k = goes_on (inside_of E G (Let x v A B)) (λ n. check E n G v A >>= λ ok. let_rest n) let_rest b c d (let_then s c h) (goes_then (λ n. check E n G v A) (λ ok n. let_rest n) c (tt {0}) d k)
+
+  pub let_domain_stops : (r : Result TermId KernelFault) (e : KernelFault) → IsErrAnd r (λ y. y ≡ e) → Refuses bank e (λ n. sort_of E n G A) b left → Types bank r (inside_of E G (Let x v A B)) b left
+  let_domain_stops r e i h =
+      err_out (λ z. Types bank z (inside_of E G (Let x v A B)) b left) r e i
+      (refuses_goes bank e (inside_of E G (Let x v A B)) b (λ n. sort_of E n G A >>= λ s. let_value n) b left let_start (refuses_first bank e (λ n. sort_of E n G A) (λ s n. let_value n) b left h))
+
+  pub let_value_stops : (s : Universe) (c : ℕ) (r : Result TermId KernelFault) (e : KernelFault) → IsErrAnd r (λ y. y ≡ e) → ComesTo (λ n. sort_of E n G A) b (done s c) → Refuses bank e (λ n. check E n G v A) c left → Types bank r (inside_of E G (Let x v A B)) b left
+  let_value_stops s c r e i h k =
+      err_out (λ z. Types bank z (inside_of E G (Let x v A B)) b left) r e i
+      (refuses_goes bank e (inside_of E G (Let x v A B)) b (λ n. check E n G v A >>= λ ok. let_rest n) c left (let_then s c h) (refuses_first bank e (λ n. check E n G v A) (λ ok n. let_rest n) c left k))
+
+  pub let_rest_stops : (s : Universe) (c d : ℕ) (r : Result TermId KernelFault) (e : KernelFault) → IsErrAnd r (λ y. y ≡ e) → ComesTo (λ n. sort_of E n G A) b (done s c) → ComesTo (λ n. check E n G v A) c (done (tt {0}) d)
+      → Refuses bank e (λ n. infer E n within_let (opened (fresh G x) B)) d left → Types bank r (inside_of E G (Let x v A B)) b left
+  let_rest_stops s c d r e i h k m =
+      err_out (λ z. Types bank z (inside_of E G (Let x v A B)) b left) r e i
+      (refuses_goes bank e (inside_of E G (Let x v A B)) b let_rest d left (let_last s c d h k) (refuses_first bank e (λ n. infer E n within_let (opened (fresh G x) B)) (λ C n. fitting (put_in v (close (fresh G x) C))) d left m))
+
+  pub let_ends : (s : Universe) (C : Tree) (c d : ℕ) (r : Result TermId KernelFault) → Within 0 v → Within 0 C → ComesTo (λ n. sort_of E n G A) b (done s c) → ComesTo (λ n. check E n G v A) c (done (tt {0}) d)
+      → ComesTo (λ n. infer E n within_let (opened (fresh G x) B)) d (done C left) → Fitted bank r (put_in v (close (fresh G x) C)) → Types bank r (inside_of E G (Let x v A B)) b left
+  let_ends s C c d r wv wc h k m fits =
+      types_goes bank r (inside_of E G (Let x v A B)) b (λ n. fitting (put_in v (close (fresh G x) C))) left left
+      (goes_on (inside_of E G (Let x v A B)) let_rest (λ n. fitting (put_in v (close (fresh G x) C))) b d left (let_last s c d h k) (goes_then (λ n. infer E n within_let (opened (fresh G x) B)) (λ C n. fitting (put_in v (close (fresh G x) C))) d C left m))
+      (fitted_types bank r (put_in v (close (fresh G x) C)) left (within-subst 0 v (close (fresh G x) C) (within-close 0 (fresh G x) C wc) wv) fits)
+
+-- an application
+module _ (E : Environment) (G : Context) (f a : Tree) (bank : Terms) (b left : ℕ) where
+  abbrev app_rest : Tree × Tree → ℕ → Kernel Tree
+  app_rest p n = infer E n G a >>= λ A. matching E n G A p.0 >>= λ ok. fitting (put_in a p.1)
+
+  app_first : (n : ℕ) → inside_of E G (App f a) n ≡ (product_of E n G f >>= λ p. app_rest p n)
+  unfolding inside_of behind infer product_of
+  app_first n = sym (bind_bind (infer E n G f) (λ F. needed_form E n G F >>= as_product) (λ p. app_rest p n))
+
+  app_second : (p : Tree × Tree) (n : ℕ) → app_rest p n ≡ (check E n G a p.0 >>= λ ok. fitting (put_in a p.1))
+  unfolding check
+  app_second p n = sym (bind_bind (infer E n G a) (λ A. matching E n G A p.0) (λ ok. fitting (put_in a p.1)))
+
+  app_start : Goes Tree (inside_of E G (App f a)) b (λ n. product_of E n G f >>= λ p. app_rest p n) b
+  app_start = goes_same (inside_of E G (App f a)) (λ n. product_of E n G f >>= λ p. app_rest p n) b app_first
+
+  app_then : (p : Tree × Tree) (c : ℕ) → ComesTo (λ n. product_of E n G f) b (done p c) → Goes Tree (inside_of E G (App f a)) b (λ n. check E n G a p.0 >>= λ ok. fitting (put_in a p.1)) c
+  app_then p c h =
+      goes_on (inside_of E G (App f a)) (λ n. product_of E n G f >>= λ p. app_rest p n) (λ n. check E n G a p.0 >>= λ ok. fitting (put_in a p.1)) b b c app_start
+      (goes_on (λ n. product_of E n G f >>= λ p. app_rest p n) (app_rest p) (λ n. check E n G a p.0 >>= λ ok. fitting (put_in a p.1)) b c c (goes_then (λ n. product_of E n G f) app_rest b p c h)
+      (goes_same (app_rest p) (λ n. check E n G a p.0 >>= λ ok. fitting (put_in a p.1)) c (app_second p)))
+
+  pub app_function_stops : (r : Result TermId KernelFault) (e : KernelFault) → IsErrAnd r (λ y. y ≡ e) → Refuses bank e (λ n. product_of E n G f) b left → Types bank r (inside_of E G (App f a)) b left
+  app_function_stops r e i h =
+      err_out (λ z. Types bank z (inside_of E G (App f a)) b left) r e i
+      (refuses_goes bank e (inside_of E G (App f a)) b (λ n. product_of E n G f >>= λ p. app_rest p n) b left app_start (refuses_first bank e (λ n. product_of E n G f) app_rest b left h))
+
+  pub app_argument_stops : (p : Tree × Tree) (c : ℕ) (r : Result TermId KernelFault) (e : KernelFault) → IsErrAnd r (λ y. y ≡ e) → ComesTo (λ n. product_of E n G f) b (done p c) → Refuses bank e (λ n. check E n G a p.0) c left → Types bank r (inside_of E G (App f a)) b left
+  app_argument_stops p c r e i h k =
+      err_out (λ z. Types bank z (inside_of E G (App f a)) b left) r e i
+      (refuses_goes bank e (inside_of E G (App f a)) b (λ n. check E n G a p.0 >>= λ ok. fitting (put_in a p.1)) c left (app_then p c h) (refuses_first bank e (λ n. check E n G a p.0) (λ ok n. fitting (put_in a p.1)) c left k))
+
+  pub app_ends : (p : Tree × Tree) (c : ℕ) (r : Result TermId KernelFault) → Within 0 a → Within 1 p.1 → ComesTo (λ n. product_of E n G f) b (done p c) → ComesTo (λ n. check E n G a p.0) c (done (tt {0}) left) → Fitted bank r (put_in a p.1)
+      → Types bank r (inside_of E G (App f a)) b left
+  app_ends p c r wa wp h k fits =
+      types_goes bank r (inside_of E G (App f a)) b (λ n. fitting (put_in a p.1)) left left
+      (goes_on (inside_of E G (App f a)) (λ n. check E n G a p.0 >>= λ ok. fitting (put_in a p.1)) (λ n. fitting (put_in a p.1)) b c left (app_then p c h) (goes_then (λ n. check E n G a p.0) (λ ok n. fitting (put_in a p.1)) c (tt {0}) left k))
+      (fitted_types bank r (put_in a p.1) left (within-subst 0 a p.1 wp wa) fits)
+
+-- a term under a binder is as large as the rest of the binder
+pub inside_size : (bank : Terms) (u : TermId) (y : Name) (B : Tree) (s : ℕ) → IsTerm bank u (opened y B) → size B ≡ s → size (tree_of bank u) ≡ s
+inside_size bank u y B s h e = ap size h.is ∙ size-opened y B ∙ e

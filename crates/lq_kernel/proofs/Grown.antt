@@ -1,181 +1,128 @@
--- What is plain in a bank stays so in one that has grown, and means the same there.
-use Rattle.std.proofs.Common.{◌≡◌, ◌∙◌, ◌<◌, ◌≤◌, ℕ, suc, refl, sym, ap, ap₂, subst, arith, List, [], ◌∷◌, ◌++◌, map, length, Option, Some, None, Result, Ok, Err, true, false, Bool, eqb, eqb-true, eq-eqb}
-use Rattle.std.specs.Prelude.{option_map, if◌then◌else◌, ◌==◌}
-use Rattle.std.specs.List.{AllByRecursion}
-use Rattle.lq_trees.specs.Tree.{Name, Tree, Context, Hypothesis as TreeHypothesis, same_name, value_of}
+-- What the kernel needs of a bank stays as the bank grows.
+use Rattle.std.proofs.Common.{◌≡◌, ◌∙◌, ℕ, refl, sym, ap, ap₂, subst, arith, List, [], ◌∷◌, ◌++◌, Option, Some, None}
+use Rattle.std.specs.Prelude.{option_map}
+use Rattle.lq_trees.specs.Tree.{Name, Tree, Context, Hypothesis as TreeHypothesis}
 use Rattle.lq_trees.specs.Index.{Within}
+use Rattle.lq_trees.specs.Change.{close}
+use Rattle.lq_trees.specs.Fresh.{fresh, opened}
+use Rattle.lq_trees.proofs.Reach.{within-close}
 use Rattle.lq_terms.specs.declared.nodes.NameId.{NameId}
 use Rattle.lq_terms.specs.declared.nodes.TermId.{TermId}
 use Rattle.lq_terms.specs.declared.nodes.Hypothesis.{Hypothesis}
-use Rattle.lq_terms.specs.Terms.{Terms, HasName, HasTerm, IsTerm, IsName, Grows, text_of, tree_of}
-use Rattle.lq_terms.specs.Contexts.{hypothesis_of, context_of, HasAllOf, HasBody, HasContext}
-use Rattle.lq_trees.specs.Rules.{Rules}
-use Rattle.lq_calculus.specs.Contraction.{contract, hypothesis}
-use Rattle.lq_calculus.specs.Declarations.{Env as Environment, Entry, constant, lookup, delta_in, rules_of}
-use Rattle.lq_calculus.specs.Checking.{KernelFault as Fault, Kernel, unbound, not_a_sort, mismatch, env_fault}
-use Rattle.lq_calculus.specs.Declarations.{name_taken}
-use Rattle.lq_calculus.proofs.ConvSound.{same_name_is}
-use Rattle.lq_kernel.specs.declared.environment.Constant.{Constant}
-use Rattle.lq_kernel.specs.declared.faults.EnvFault.{EnvFault}
-use Rattle.lq_kernel.specs.declared.faults.KernelFault.{KernelFault}
-use Rattle.lq_kernel.specs.Endings.{EndsAs}
-use Rattle.lq_kernel.specs.Plain.{IsPlain, IsPlainTerm, IsPlainHypothesis, IsPlainContext, IsPlainConstant, IsPlainEnv}
-use Rattle.lq_kernel.specs.Environments.{constant_of, entry_of, env_of}
-use Rattle.lq_kernel.specs.Answers.{Refuses}
-use Rattle.lq_kernel.proofs.PlainTrees.{Still, body_in, contract_var}
-use Rattle.lq_kernel.proofs.Comparing.{name_same}
+use Rattle.lq_terms.specs.Terms.{Terms, HasName, HasTerm, Grows, IsTerm, IsName, text_of, tree_of}
+use Rattle.lq_terms.specs.Contexts.{hypothesis_of, context_of, HasBody, HasContext}
+use Rattle.lq_terms.proofs.Growth.{Grows-trans}
+use Rattle.lq_terms.proofs.Tellings.{context_of-grown as terms_context_of-grown}
+use Rattle.lq_calculus.specs.Declarations.{Env as Environment}
+use Rattle.lq_env.specs.declared.environment.Declared.{Declared}
+use Rattle.lq_env.specs.Environments.{IsEnv, env_of}
+use Rattle.lq_env.proofs.Grown.{IsEnv-grown as env_IsEnv-grown, env_of-grown as env_env_of-grown}
+use Rattle.lq_kernel.specs.Closed.{IsScoped, IsBody, IsHypothesis, IsContext}
+use Rattle.lq_kernel.specs.declared.inside.Inside.{Inside}
+use Rattle.lq_kernel.specs.Steps.{IsType, IsInside}
+use Rattle.lq_kernel.proofs.Trees.{within-opened}
+
+-- the bank has what the context names
+pub has_context : (bank : Terms) (hs : List Hypothesis) → IsContext bank hs → HasContext bank hs
+has_context bank [] p = tt
+has_context bank (h ∷ hs) p = (record { name = p.0.name; body = has_body h.body p.0.body; kind = p.0.kind.has }, has_context bank hs p.1)
+  where
+    has_body : (o : Option TermId) → IsBody bank o → HasBody bank o
+    has_body None q = tt
+    has_body (Some t) q = q.has
 
 module _ (old new : Terms) (g : Grows old new) where
-  pub IsPlainTerm-grown : (n : ℕ) (t : TermId) → IsPlainTerm old n t → IsPlainTerm new n t
-  IsPlainTerm-grown n t h = record {
-    has = omega (arith, h.has, g.nodes);
-    plain = subst IsPlain (sym (g.tree t h.has)) h.plain;
-    below = subst (Within n) (sym (g.tree t h.has)) h.below;
-  }
+  pub IsScoped-grown : (n : ℕ) (t : TermId) → IsScoped old n t → IsScoped new n t
+  IsScoped-grown n t h = record { has = omega (arith, h.has, g.nodes); within = subst (Within n) (sym (g.tree t h.has)) h.within }
 
-  pub IsPlainHypothesis-grown : (h : Hypothesis) → IsPlainHypothesis old h → IsPlainHypothesis new h
-  IsPlainHypothesis-grown h p = record { name = omega (arith, p.name, g.names); bodiless = p.bodiless; kind = IsPlainTerm-grown 0 h.kind p.kind }
+  pub IsBody-grown : (o : Option TermId) → IsBody old o → IsBody new o
+  IsBody-grown None h = tt
+  IsBody-grown (Some t) h = IsScoped-grown 0 t h
 
-  pub IsPlainContext-grown : (hs : List Hypothesis) → IsPlainContext old hs → IsPlainContext new hs
-  IsPlainContext-grown [] p = tt
-  IsPlainContext-grown (h ∷ hs) p = (IsPlainHypothesis-grown h p.0, IsPlainContext-grown hs p.1)
+  pub IsContext-grown : (hs : List Hypothesis) → IsContext old hs → IsContext new hs
+  IsContext-grown [] h = tt
+  IsContext-grown (x ∷ xs) h =
+      (record { name = omega (arith, h.0.name, g.names); body = IsBody-grown x.body h.0.body; kind = IsScoped-grown 0 x.kind h.0.kind }, IsContext-grown xs h.1)
 
-  pub IsPlainConstant-grown : (c : NameId × Constant) → IsPlainConstant old c → IsPlainConstant new c
-  IsPlainConstant-grown c p = record {
-    name = omega (arith, p.name, g.names);
-    kind = IsPlainTerm-grown 0 c.1.kind p.kind;
-    body = omega (arith, p.body, g.nodes);
-    is_opaque = p.is_opaque;
-  }
+  pub IsEnv-grown : (ds : List (NameId × Declared)) → IsEnv old ds → IsEnv new ds
+  IsEnv-grown ds h = env_IsEnv-grown old new g ds h
 
-  pub IsPlainEnv-grown : (env : List (NameId × Constant)) → IsPlainEnv old env → IsPlainEnv new env
-  IsPlainEnv-grown [] p = tt
-  IsPlainEnv-grown (c ∷ cs) p = (IsPlainConstant-grown c p.0, IsPlainEnv-grown cs p.1)
+  -- what they stand for stays
+  pub context_at : (hs : List Hypothesis) (G : Context) → IsContext old hs → context_of old hs ≡ G → context_of new hs ≡ G
+  context_at hs G h e = terms_context_of-grown old new g hs (has_context old hs h) ∙ e
 
-  pub hypothesis_of-grown : (h : Hypothesis) → IsPlainHypothesis old h → hypothesis_of new h ≡ hypothesis_of old h
-  hypothesis_of-grown h p = rw (g.text h.name p.name, g.tree h.kind p.kind.has, p.bodiless)
+  pub env_at : (ds : List (NameId × Declared)) (E : Environment) → IsEnv old ds → env_of old ds ≡ E → env_of new ds ≡ E
+  env_at ds E h e = env_env_of-grown old new g ds h ∙ e
 
-  pub context_of-grown : (hs : List Hypothesis) → IsPlainContext old hs → context_of new hs ≡ context_of old hs
-  context_of-grown [] p = refl
-  context_of-grown (h ∷ hs) p = ap₂ (λ x xs. x ∷ xs) (hypothesis_of-grown h p.0) (context_of-grown hs p.1)
+  pub tree_at : (t : TermId) (T : Tree) → HasTerm old t → tree_of old t ≡ T → tree_of new t ≡ T
+  tree_at t T h e = g.tree t h ∙ e
 
-  pub entry_of-grown : (c : NameId × Constant) → IsPlainConstant old c → entry_of new c.1 ≡ entry_of old c.1
-  entry_of-grown c p = ap₂ (λ A t. constant A t c.1.opaque) (g.tree c.1.kind p.kind.has) (g.tree c.1.body p.body)
+  pub text_at : (x : NameId) (X : Name) → HasName old x → text_of old x ≡ X → text_of new x ≡ X
+  text_at x X h e = g.text x h ∙ e
 
-  pub env_of-grown : (env : List (NameId × Constant)) → IsPlainEnv old env → env_of new env ≡ env_of old env
-  env_of-grown [] p = refl
-  env_of-grown (c ∷ cs) p =
-      ap₂ (λ x xs. x ∷ xs) (ap₂ (λ x e. (x, e)) (g.text c.0 p.0.name) (entry_of-grown c p.0)) (env_of-grown cs p.1)
-
-  -- a refusal tells the same
-  pub Refuses-grown : {A : Type 0} (e : KernelFault) (f : ℕ → Kernel A) → Refuses old e f → Refuses new e f
-  Refuses-grown (KernelFault.Unbound x) f h = (omega (arith, h.0, g.names), subst (λ z. EndsAs f (Err (unbound z))) (sym (g.text x h.0)) h.1)
-  Refuses-grown (KernelFault.NotAProduct t) f h = absurd h
-  Refuses-grown (KernelFault.NotASort t) f h = (omega (arith, h.0, g.nodes), subst (λ z. EndsAs f (Err (not_a_sort z))) (sym (g.tree t h.0)) h.1)
-  Refuses-grown (KernelFault.Mismatch t u) f h =
-      (omega (arith, h.0, g.nodes), omega (arith, h.1, g.nodes), subst (λ z. EndsAs f (Err (mismatch z (tree_of new u)))) (sym (g.tree t h.0)) (subst (λ z. EndsAs f (Err (mismatch (tree_of old t) z))) (sym (g.tree u h.1)) h.2))
-  Refuses-grown KernelFault.NoSortAbove f h = h
-  Refuses-grown (KernelFault.HasVariable n) f h = absurd h
-  Refuses-grown KernelFault.StepsOut f h = absurd h
-  Refuses-grown (KernelFault.TooBig x k) f h = absurd h
-  Refuses-grown KernelFault.TooLarge f h = h
-  Refuses-grown KernelFault.TooDeep f h = h
-  Refuses-grown (KernelFault.Env (EnvFault.NameTaken x)) f h = (omega (arith, h.0, g.names), subst (λ z. EndsAs f (Err (env_fault (name_taken z)))) (sym (g.text x h.0)) h.1)
-  Refuses-grown (KernelFault.Env EnvFault.NoMemory) f h = absurd h
-  Refuses-grown KernelFault.NoMemory f h = tt
-
--- a refusal of a part is one of the whole
-pub refuses_by : {A B : Type 0} (bank : Terms) (e : KernelFault) (f : ℕ → Kernel A) (h : ℕ → Kernel B) → ((k : Fault) → EndsAs f (Err k) → EndsAs h (Err k)) → Refuses bank e f → Refuses bank e h
-refuses_by bank (KernelFault.Unbound x) f h m r = (r.0, m _ r.1)
-refuses_by bank (KernelFault.NotAProduct t) f h m r = absurd r
-refuses_by bank (KernelFault.NotASort t) f h m r = (r.0, m _ r.1)
-refuses_by bank (KernelFault.Mismatch t u) f h m r = (r.0, r.1, m _ r.2)
-refuses_by bank KernelFault.NoSortAbove f h m r = m _ r
-refuses_by bank (KernelFault.HasVariable n) f h m r = absurd r
-refuses_by bank KernelFault.StepsOut f h m r = absurd r
-refuses_by bank (KernelFault.TooBig x k) f h m r = absurd r
-refuses_by bank KernelFault.TooLarge f h m r = m _ r
-refuses_by bank KernelFault.TooDeep f h m r = m _ r
-refuses_by bank (KernelFault.Env (EnvFault.NameTaken x)) f h m r = (r.0, m _ r.1)
-refuses_by bank (KernelFault.Env EnvFault.NoMemory) f h m r = absurd r
-refuses_by bank KernelFault.NoMemory f h m r = tt
+-- a type has no loose bound variable
+pub type_scoped : (bank : Terms) (t : TermId) → IsType bank t (tree_of bank t) → IsScoped bank 0 t
+type_scoped bank t h = record { has = h.term.has; within = h.within }
 
 -- one more hypothesis
-pub IsPlainContext-push : (bank : Terms) (hs : List Hypothesis) (h : Hypothesis) → IsPlainContext bank hs → IsPlainHypothesis bank h → IsPlainContext bank (hs ++ h ∷ [])
-IsPlainContext-push bank [] h p q = (q, tt)
-IsPlainContext-push bank (x ∷ xs) h p q = (p.0, IsPlainContext-push bank xs h p.1 q)
+pub IsContext-push : (bank : Terms) (hs : List Hypothesis) (h : Hypothesis) → IsContext bank hs → IsHypothesis bank h → IsContext bank (hs ++ h ∷ [])
+IsContext-push bank [] h p q = (q, tt)
+IsContext-push bank (x ∷ xs) h p q = (p.0, IsContext-push bank xs h p.1 q)
 
 pub context_of-push : (bank : Terms) (hs : List Hypothesis) (h : Hypothesis) → context_of bank (hs ++ h ∷ []) ≡ context_of bank hs ++ hypothesis_of bank h ∷ []
 context_of-push bank [] h = refl
 context_of-push bank (x ∷ xs) h = ap (λ ys. hypothesis_of bank x ∷ ys) (context_of-push bank xs h)
 
--- one more constant
-pub env_of-push : (bank : Terms) (env : List (NameId × Constant)) (c : NameId × Constant) → env_of bank (env ++ c ∷ []) ≡ env_of bank env ++ (text_of bank c.0, entry_of bank c.1) ∷ []
-env_of-push bank [] c = refl
-env_of-push bank (d ∷ ds) c = ap (λ ys. (text_of bank d.0, entry_of bank d.1) ∷ ys) (env_of-push bank ds c)
+-- a type under a binder, closed
+pub closed_scoped : (old new : Terms) (body rest : TermId) (x : NameId) → IsScoped old 0 body → IsTerm new rest (close (text_of old x) (tree_of old body)) → IsScoped new 1 rest
+closed_scoped old new body rest x h made = record { has = made.has; within = subst (Within 1) (sym made.is) (within-close 0 (text_of old x) (tree_of old body) h.within) }
 
-pub IsPlainEnv-push : (bank : Terms) (env : List (NameId × Constant)) (c : NameId × Constant) → IsPlainEnv bank env → IsPlainConstant bank c → IsPlainEnv bank (env ++ c ∷ [])
-IsPlainEnv-push bank [] c p q = (q, tt)
-IsPlainEnv-push bank (d ∷ ds) c p q = (p.0, IsPlainEnv-push bank ds c p.1 q)
+-- the name of a variable, by the hypotheses of a context
+pub named_at : (old new : Terms) (hs ks : List Hypothesis) (binder y : NameId) → ks ≡ hs → IsName new y (fresh (context_of old ks) (text_of old binder)) → IsName new y (fresh (context_of old hs) (text_of old binder))
+named_at old new hs ks binder y e h = subst (λ z. IsName new y (fresh (context_of old z) (text_of old binder))) e h
 
--- the bank has what a plain context names
-pub plain_has : (bank : Terms) (hs : List Hypothesis) → IsPlainContext bank hs → HasContext bank hs
-plain_has bank [] p = tt
-plain_has bank (h ∷ hs) p = (record { name = p.0.name; body = no_body h p.0.bodiless; kind = p.0.kind.has }, plain_has bank hs p.1)
-  where
-    no_body : (h : Hypothesis) → h.body ≡ None → HasBody bank h.body
-    no_body h e = subst (HasBody bank) (sym e) tt
+-- what stands under a binder
+module _ (old named opened_at : Terms) (g : Grows old named) (h : Grows named opened_at) (hs : List Hypothesis) (binder y : NameId) (body : Option TermId) (kind rest u : TermId) (context : List Hypothesis)
+    (p : IsContext old hs) (hk : IsScoped old 0 kind) (hb : IsBody old body) (hr : IsScoped old 1 rest)
+    (named_as : IsName named y (fresh (context_of old hs) (text_of old binder))) (term : IsTerm opened_at u (opened (text_of named y) (tree_of named rest)))
+    (made : context ≡ hs ++ record { name = y; body = body; kind = kind } ∷ []) where
+  body_at : (o : Option TermId) → IsBody old o → option_map (tree_of opened_at) o ≡ option_map (tree_of old) o
+  body_at None q = refl
+  body_at (Some t) q = ap (λ z. Some z) (h.tree t (omega (arith, q.has, g.nodes)) ∙ g.tree t q.has)
 
--- no hypothesis of a plain context has a body
-pub bodiless : (bank : Terms) (hs : List Hypothesis) → IsPlainContext bank hs → (x : Name) → body_in (hypothesis (context_of bank hs) x) ≡ None
-unfolding body_in hypothesis
-bodiless bank [] p x = refl
-bodiless bank (h ∷ hs) p x = either (same_name (text_of bank h.name) x) p.0.bodiless (bodiless bank hs p.1 x)
-  where
-    either : (b : Bool) → h.body ≡ None → body_in (hypothesis (context_of bank hs) x) ≡ None → body_in (elim b [ true ↦ Some (hypothesis_of bank h) | false ↦ hypothesis (context_of bank hs) x ]) ≡ None
-    either true e k = rw e refl
-    either false e k = k
-
--- no constant of a plain environment is put in its place
-pub no_delta : (bank : Terms) (env : List (NameId × Constant)) → IsPlainEnv bank env → (c : Name) → delta_in (lookup (env_of bank env) c) ≡ None
-unfolding delta_in
-no_delta bank [] p c = refl
-no_delta bank (d ∷ ds) p c = either (same_name c (text_of bank d.0)) p.0.is_opaque (no_delta bank ds p.1 c)
-  where
-    either : (b : Bool) → d.1.opaque ≡ true → delta_in (lookup (env_of bank ds) c) ≡ None → delta_in (if b then Some (entry_of bank d.1) else lookup (env_of bank ds) c) ≡ None
-    either true e k = subst (λ o. delta_in (Some (constant (tree_of bank d.1.kind) (tree_of bank d.1.body) o)) ≡ None) (sym e) refl
-    either false e k = k
-
-pub still : (bank : Terms) (env : List (NameId × Constant)) (hs : List Hypothesis) → IsPlainEnv bank env → IsPlainContext bank hs → Still (rules_of (env_of bank env)) (context_of bank hs)
-unfolding contract rules_of
-still bank env hs p q = record { variable = λ x. contract_var (rules_of (env_of bank env)) (context_of bank hs) x ∙ bodiless bank hs q x; constant = no_delta bank env p }
-
--- the constant of a name, as an entry of its text
-module _ (bank : Terms) (x : NameId) (apart : (other : NameId) → HasName bank other → text_of bank other ≡ text_of bank x → other ≡ x) where
-  pub lookup_of : (env : List (NameId × Constant)) → IsPlainEnv bank env → lookup (env_of bank env) (text_of bank x) ≡ option_map (entry_of bank) (constant_of env x)
-  lookup_of [] p = refl
-  lookup_of (d ∷ ds) p = either (same_name (text_of bank x) (text_of bank d.0)) (x.place == d.0.place) refl refl (lookup_of ds p.1)
+  pub inside_is : (G : Context) (x : Name) (A B : Tree) → context_of old hs ≡ G → text_of old binder ≡ x → tree_of old kind ≡ A → tree_of old rest ≡ B
+      → IsInside opened_at (record { name = y; term = u; context = context }) (fresh G x) (opened (fresh G x) B) (G ++ record { name = fresh G x; body = option_map (tree_of old) body; kind = A } ∷ [])
+  inside_is G x A B eg ex ea eb =
+      let whole : Grows old opened_at = Grows-trans old named opened_at g h in
+      let fresh_is : text_of named y ≡ fresh G x = named_as.is ∙ ap₂ fresh eg ex in
+      let rest_is : tree_of named rest ≡ B = g.tree rest hr.has ∙ eb in
+      let new : IsHypothesis opened_at (record { name = y; body = body; kind = kind }) = record { name = omega (arith, named_as.has, h.names); body = IsBody-grown old opened_at whole body hb; kind = IsScoped-grown old opened_at whole 0 kind hk } in
+      let last : hypothesis_of opened_at (record { name = y; body = body; kind = kind }) ≡ record { name = fresh G x; body = option_map (tree_of old) body; kind = A } =
+      made_of (h.text y named_as.has ∙ fresh_is) (body_at body hb) (whole.tree kind hk.has ∙ ea) in
+      record {
+        name = record { has = omega (arith, named_as.has, h.names); is = h.text y named_as.has ∙ fresh_is };
+        term = record { has = term.has; is = term.is ∙ ap₂ opened fresh_is rest_is };
+        within = within-opened (fresh G x) B (subst (Within 1) eb hr.within);
+        context = subst (IsContext opened_at) (sym made) (IsContext-push opened_at hs (record { name = y; body = body; kind = kind }) (IsContext-grown old opened_at whole hs p) new);
+        is = ap (context_of opened_at) made ∙ context_of-push opened_at hs (record { name = y; body = body; kind = kind }) ∙ ap₂ (λ H z. H ++ z ∷ []) (context_at old opened_at whole hs G p eg) last;
+      }
     where
-      either :
-          (a b : Bool) → same_name (text_of bank x) (text_of bank d.0) ≡ a → (x.place == d.0.place) ≡ b
-          → lookup (env_of bank ds) (text_of bank x) ≡ option_map (entry_of bank) (constant_of ds x)
-          → (if a then Some (entry_of bank d.1) else lookup (env_of bank ds) (text_of bank x)) ≡ option_map (entry_of bank) (if b then Some d.1 else constant_of ds x)
-      either true true e f k = refl
-      either false false e f k = k
-      either true false e f k =
-          let same : d.0 ≡ x = apart d.0 p.0.name (sym (same_name_is (text_of bank x) (text_of bank d.0) e)) in
-          let j : (x.place == d.0.place) ≡ true = eq-eqb x.place d.0.place (ap (λ y. y.place) (sym same)) in
-          absurd cc
-      either false true e f k =
-          let same : x.place ≡ d.0.place = eqb-true x.place d.0.place f in
-          let j : same_name (text_of bank x) (text_of bank d.0) ≡ true = name_same (text_of bank x) (text_of bank d.0) (ap (λ n. text_of bank (record { place = n })) same) in
-          absurd cc
+      made_of : {a b : Name} {o q : Option Tree} {s t : Tree} → a ≡ b → o ≡ q → s ≡ t → ◌≡◌ {A = TreeHypothesis} (record { name = a; body = o; kind = s }) (record { name = b; body = q; kind = t })
+      made_of e f k = rw (e, f, k) refl
 
--- a constant that is found is plain
-pub plain_constant : (bank : Terms) (env : List (NameId × Constant)) (x : NameId) (c : Constant) → IsPlainEnv bank env → constant_of env x ≡ Some c → IsPlainTerm bank 0 c.kind
-plain_constant bank [] x c p e = absurd cc
-plain_constant bank (d ∷ ds) x c p e = either (x.place == d.0.place) e (λ f. plain_constant bank ds x c p.1 f)
-  where
-    either : (b : Bool) → (if b then Some d.1 else constant_of ds x) ≡ Some c → (constant_of ds x ≡ Some c → IsPlainTerm bank 0 c.kind) → IsPlainTerm bank 0 c.kind
-    either true f k = let same : d.1 ≡ c = cc in subst (λ z. IsPlainTerm bank 0 z.kind) same p.0.kind
-    either false f k = k f
+-- a term under a binder has no loose bound variable
+pub inside_scoped : (bank : Terms) (i : Inside) (y : Name) (B : Tree) (G : Context) → IsInside bank i y B G → IsScoped bank 0 i.term
+inside_scoped bank i y B G h = record { has = h.term.has; within = subst (Within 0) (sym h.term.is) h.within }
+
+-- under a local definition, whose value the bank had before
+pub let_inside : (bank : Terms) (i : Inside) (G : Context) (x : Name) (A B v w : Tree) → v ≡ w → IsInside bank i (fresh G x) (opened (fresh G x) B) (G ++ record { name = fresh G x; body = Some v; kind = A } ∷ [])
+    → IsInside bank i (fresh G x) (opened (fresh G x) B) (G ++ record { name = fresh G x; body = Some w; kind = A } ∷ [])
+let_inside bank i G x A B v w e h = subst (λ z. IsInside bank i (fresh G x) (opened (fresh G x) B) (G ++ record { name = fresh G x; body = Some z; kind = A } ∷ [])) e h
+
+-- what stands under a binder, by what the binder's parts stood for before the bank grew
+pub inside_at :
+    (old mid new : Terms) (g : Grows old mid) (i : Inside) (hs : List Hypothesis) (binder : NameId) (kind rest : TermId) (G : Context) → IsContext old hs → HasName old binder → HasTerm old kind → HasTerm old rest → context_of old hs ≡ G
+    → ((H : Context) (x : Name) (A B : Tree) → context_of mid hs ≡ H → text_of mid binder ≡ x → tree_of mid kind ≡ A → tree_of mid rest ≡ B → IsInside new i (fresh H x) (opened (fresh H x) B) (H ++ record { name = fresh H x; body = None; kind = A } ∷ []))
+    → IsInside new i (fresh G (text_of old binder)) (opened (fresh G (text_of old binder)) (tree_of old rest)) (G ++ record { name = fresh G (text_of old binder); body = None; kind = tree_of old kind } ∷ [])
+inside_at old mid new g i hs binder kind rest G p hx hk hr e told =
+    told G (text_of old binder) (tree_of old kind) (tree_of old rest) (context_at old mid g hs G p e) (text_at old mid g binder (text_of old binder) hx refl) (tree_at old mid g kind (tree_of old kind) hk refl) (tree_at old mid g rest (tree_of old rest) hr refl)

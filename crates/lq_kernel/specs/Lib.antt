@@ -1,6 +1,4 @@
-pub mod Endings
-pub mod Plain
-pub mod Environments
 pub mod Answers
+pub mod Closed
 pub mod Steps
 pub mod Declaring

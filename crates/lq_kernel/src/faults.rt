@@ -1,25 +1,18 @@
 //! Why the kernel refuses.
 
+use lq_env::EnvFault;
+use lq_reduce::ReduceFault;
 use lq_terms::{NameId, NoMemory, SizeFault, TermId};
 use std::alloc::{AllocError, AllocFailed};
-
-/// Why an environment does not take a declaration.
-#[derive(Clone, Copy, Debug, PartialEq, Eq)]
-pub enum EnvFault {
-    /// The name is declared already.
-    NameTaken(NameId),
-    /// There was no memory.
-    NoMemory,
-}
 
 /// Why the kernel refuses a term or a declaration.
 #[derive(Clone, Copy, Debug, PartialEq, Eq)]
 pub enum KernelFault {
-    /// Neither a hypothesis nor a declaration has this name.
+    /// Neither a hypothesis nor a declaration of the node's kind has this name.
     Unbound(NameId),
-    /// A function's type, which is no product.
+    /// The weak head form of a function's type, which is no product.
     NotAProduct(TermId),
-    /// A type's type, which is no sort.
+    /// The weak head form of a type's type, which is no sort.
     NotASort(TermId),
     /// The type that was found, and the one that was wanted.
     Mismatch(TermId, TermId),
@@ -30,12 +23,12 @@ pub enum KernelFault {
     /// The budget of ticks is spent.
     StepsOut,
     /// An argument of a constructor, counted from 1, whose sort is above that of the family.
-    TooBig(NameId, u32),
-    /// A type has more than 1,000,000 nodes.
+    TooBig(NameId, u64),
+    /// A type or a weak head form has more than 1,000,000 nodes.
     TooLarge,
-    /// A type fits in size, and is deeper than 2,000.
+    /// A type or a weak head form fits in size, and is deeper than 2,000.
     TooDeep,
-    /// The environment does not take it.
+    /// The environment refuses: it does not take the declaration, or does not give the eliminator.
     Env(EnvFault),
     /// There was no memory.
     NoMemory,
@@ -85,6 +78,48 @@ impl From<SizeFault> for KernelFault {
             SizeFault::TooLarge => KernelFault::TooLarge,
             SizeFault::TooDeep => KernelFault::TooDeep,
             SizeFault::NoMemory => KernelFault::NoMemory,
+        }
+    }
+}
+
+impl From<ReduceFault> for KernelFault {
+    ghost use Rattle.std.specs.Prelude.{◌≡◌};
+    ghost use Rattle.lq_kernel.specs.Steps.{reduce_fault};
+
+    ghost from_gives = { λ s e. e ≡ reduce_fault s };
+
+    fn from(fault: ReduceFault) -> KernelFault {
+        match fault {
+            ReduceFault::StepsOut => KernelFault::StepsOut,
+            ReduceFault::TooLarge => KernelFault::TooLarge,
+            ReduceFault::TooDeep => KernelFault::TooDeep,
+            ReduceFault::NoMemory => KernelFault::NoMemory,
+        }
+    }
+}
+
+impl From<EnvFault> for KernelFault {
+    ghost use Rattle.std.specs.Prelude.{◌≡◌};
+    ghost use Rattle.lq_kernel.specs.Steps.{refusal};
+
+    ghost from_gives = { λ s e. e ≡ refusal s };
+
+    fn from(fault: EnvFault) -> KernelFault {
+        match fault {
+            EnvFault::NoMemory => KernelFault::NoMemory,
+            EnvFault::NameTaken(name) => KernelFault::Env(EnvFault::NameTaken(name)),
+            EnvFault::NotPositive(name, argument) => {
+                KernelFault::Env(EnvFault::NotPositive(name, argument))
+            }
+            EnvFault::NestedUse(name, argument) => {
+                KernelFault::Env(EnvFault::NestedUse(name, argument))
+            }
+            EnvFault::BadResult(name) => KernelFault::Env(EnvFault::BadResult(name)),
+            EnvFault::ElimForbidden(name, sort) => {
+                KernelFault::Env(EnvFault::ElimForbidden(name, sort))
+            }
+            EnvFault::TooLarge => KernelFault::Env(EnvFault::TooLarge),
+            EnvFault::TooDeep => KernelFault::Env(EnvFault::TooDeep),
         }
     }
 }

@@ -1,100 +1,142 @@
 //! The kernel's calls.
 
-ghost use Rattle.std.specs.Prelude.{◌≡◌, [], None, ◌∷◌, ◌++◌, IfOk, OnOk, OnErr};
-ghost use Rattle.lq_terms.specs.Terms.{HasName, text_of, tree_of, Grows};
+ghost use Rattle.std.specs.Prelude.{◌≡◌, ◌+◌, IfOk, OnOk, OnErr};
+ghost use Rattle.lq_terms.specs.Terms.{tree_of, Grows};
 ghost use Rattle.lq_terms.specs.Contexts.{context_of};
 ghost use Rattle.lq_calculus.specs.Typing.{Derives, DerivedEnv};
-ghost use Rattle.lq_calculus.specs.Checking.{infer_call, check_call};
-ghost use Rattle.lq_kernel.specs.Plain.{IsPlainTerm, IsPlainContext, IsPlainEnv};
-ghost use Rattle.lq_kernel.specs.Environments.{constant_of, env_of};
+ghost use Rattle.lq_calculus.specs.Checking.{infer_call, check_call, sort_of};
+ghost use Rattle.lq_env.specs.Environments.{IsEnv, env_of, Extends};
+ghost use Rattle.lq_kernel.specs.Closed.{IsScoped, IsContext};
 ghost use Rattle.lq_kernel.specs.Answers.{Infers, Checks, Declares};
-ghost use Rattle.lq_kernel.specs.Declaring.{IsPlainDeclaration, entry_by, declaring, adding, Accepts};
+ghost use Rattle.lq_kernel.specs.Declaring.{IsDeclaration, declare};
+ghost use Rattle.lq_kernel.specs.Steps.{Sorts};
 
-use crate::environment::{Constant, Env};
-use crate::faults::{EnvFault, KernelFault};
+use crate::constants::declare_constant;
+use crate::declaration::Declaration;
+use crate::declaring::declare_family;
+use crate::faults::KernelFault;
 use crate::looking::known;
-use crate::typing::{has_sort, has_type, type_of};
-use lq_terms::{Bank, Context, NameId, TermId};
+use crate::typing::{check_in, sort_in, type_of};
+use lq_env::Env;
+use lq_terms::{Context, Steps, TermId, Work};
+use lq_trees::Sort;
+use std::sync::ledger::Ledger;
 
-/// What may be declared.
-#[derive(Clone, Copy)]
-pub enum Declaration {
-    /// A constant.
-    Constant {
-        /// Its name.
-        name: NameId,
-        /// Its type.
-        kind: TermId,
-        /// What it stands for.
-        body: TermId,
-        /// Whether its body is never put in its place.
-        opaque: bool,
-    },
-}
-
-/// The type of a term under the hypotheses of a context. A strange hypothesis, an unknown constant,
-/// a domain whose type is no sort, the last sort, and a type beyond the limits are refused.
-///
-/// It calls itself as deep as the term is.
-pub fn infer(
-    bank: &mut Bank<'_>,
+/// The type of a term under the hypotheses of a context, at a tick for each node before its parts, and
+/// the ticks of the weak head forms and comparisons that the rules need. Before the work, at no tick,
+/// the term is looked through: the first hypothesis in pre-order that the context lacks is unbound.
+/// The first fault in the order of work counts; the budget is spent where the next tick would pass it.
+/// It takes a term without loose bound variables, and calls itself as deep as the term is.
+pub fn infer<L: Ledger>(
+    work: &mut Work<'_, '_>,
     env: &Env,
     context: &Context,
     term: TermId,
+    steps: &mut Steps<L>,
 ) -> Result<TermId, KernelFault>
-    requires term { IsPlainTerm bank.old 0 term }
-    requires env { IsPlainEnv bank.old env.now }
-    requires context { IsPlainContext bank.old context.now }
-    ensures answer { Infers bank.new result (λ n. infer_call (env_of bank.old env.now) n (context_of bank.old context.now) (tree_of bank.old term)) }
-    ensures derives { IfOk result (λ t. Derives (env_of bank.old env.now) (context_of bank.old context.now) (tree_of bank.old term) (tree_of bank.new t)) }
-    ensures grows { Grows bank.old bank.new }
+    requires term { IsScoped work.old.bank.now 0 term }
+    requires env { IsEnv work.old.bank.now env.now }
+    requires context { IsContext work.old.bank.now context.now }
+    ensures answer { Infers work.new.bank.now result (λ n. infer_call (env_of work.old.bank.now env.now) n (context_of work.old.bank.now context.now) (tree_of work.old.bank.now term)) work.old.ticks.now.left work.new.ticks.now.left }
+    ensures derives { IfOk result (λ t. Derives (env_of work.old.bank.now env.now) (context_of work.old.bank.now context.now) (tree_of work.old.bank.now term) (tree_of work.new.bank.now t)) }
+    ensures same_bank { work.new.bank.ghost_name ≡ work.old.bank.ghost_name }
+    ensures same_ticks { work.new.ticks.ghost_name ≡ work.old.ticks.ghost_name }
+    ensures grows { Grows work.old.bank.now work.new.bank.now }
+    ensures budget { work.new.ticks.now.left + work.new.ticks.now.spent ≡ work.old.ticks.now.left + work.old.ticks.now.spent }
+    ensures counted { steps.new + work.old.ticks.now.spent ≡ steps.old + work.new.ticks.now.spent }
 {
-    known(bank, context.hypotheses(), term)?;
-    let mut hypotheses = Vec::from_slice(bank.allocator(), context.hypotheses())?;
-    type_of(bank, env, &mut hypotheses, term)
+    known(work.bank, context.hypotheses(), term)?;
+    type_of(work, env, context, term, steps)
 }
 
-/// Whether a term has a type under the hypotheses of a context: the term's own type is inferred, with
-/// the refusals of [`infer`], and compared.
-///
-/// It calls itself as deep as the terms are.
-pub fn check(
-    bank: &mut Bank<'_>,
+/// Refuses a term that has not the type under the hypotheses of a context: the term's own type is
+/// inferred, with the refusals and the price of [`infer`], and compared. Before the work, at no tick,
+/// the term and then the type are looked through for strange hypotheses. Where the term has the type,
+/// the terms that were made to find out are dropped.
+pub fn check<L: Ledger>(
+    work: &mut Work<'_, '_>,
     env: &Env,
     context: &Context,
     term: TermId,
     wanted: TermId,
+    steps: &mut Steps<L>,
 ) -> Result<(), KernelFault>
-    requires term { IsPlainTerm bank.old 0 term }
-    requires wanted { IsPlainTerm bank.old 0 wanted }
-    requires env { IsPlainEnv bank.old env.now }
-    requires context { IsPlainContext bank.old context.now }
-    ensures answer { Checks bank.new result (λ n. check_call (env_of bank.old env.now) n (context_of bank.old context.now) (tree_of bank.old term) (tree_of bank.old wanted)) }
-    ensures derives { OnOk result (Derives (env_of bank.old env.now) (context_of bank.old context.now) (tree_of bank.old term) (tree_of bank.old wanted)) }
-    ensures grows { Grows bank.old bank.new }
+    requires term { IsScoped work.old.bank.now 0 term }
+    requires wanted { IsScoped work.old.bank.now 0 wanted }
+    requires env { IsEnv work.old.bank.now env.now }
+    requires context { IsContext work.old.bank.now context.now }
+    ensures answer { Checks work.new.bank.now result (λ n. check_call (env_of work.old.bank.now env.now) n (context_of work.old.bank.now context.now) (tree_of work.old.bank.now term) (tree_of work.old.bank.now wanted)) work.old.ticks.now.left work.new.ticks.now.left }
+    ensures derives { OnOk result (Derives (env_of work.old.bank.now env.now) (context_of work.old.bank.now context.now) (tree_of work.old.bank.now term) (tree_of work.old.bank.now wanted)) }
+    ensures same_bank { work.new.bank.ghost_name ≡ work.old.bank.ghost_name }
+    ensures same_ticks { work.new.ticks.ghost_name ≡ work.old.ticks.ghost_name }
+    ensures grows { Grows work.old.bank.now work.new.bank.now }
+    ensures budget { work.new.ticks.now.left + work.new.ticks.now.spent ≡ work.old.ticks.now.left + work.old.ticks.now.spent }
+    ensures counted { steps.new + work.old.ticks.now.spent ≡ steps.old + work.new.ticks.now.spent }
 {
-    known(bank, context.hypotheses(), term)?;
-    known(bank, context.hypotheses(), wanted)?;
-    let mut hypotheses = Vec::from_slice(bank.allocator(), context.hypotheses())?;
-    has_type(bank, env, &mut hypotheses, term, wanted)
+    known(work.bank, context.hypotheses(), term)?;
+    known(work.bank, context.hypotheses(), wanted)?;
+    let mark = work.bank.mark();
+    check_in(work, env, context, term, wanted, steps)?;
+    work.bank.undo(mark);
+    Ok(())
 }
 
-/// Declares a constant, if its name is new, its type has a sort and its body has that type. After a
-/// refusal the environment is as before.
+/// The sort of a term that must have one under the hypotheses of a context: its type is inferred, and this one's
+/// weak head form must be a sort, else it is refused as none. The refusals and the price are those of [`infer`] and of
+/// the weak head form; strange hypotheses are not looked for before the work.
+pub fn sort_of<L: Ledger>(
+    work: &mut Work<'_, '_>,
+    env: &Env,
+    context: &Context,
+    term: TermId,
+    steps: &mut Steps<L>,
+) -> Result<Sort, KernelFault>
+    requires term { IsScoped work.old.bank.now 0 term }
+    requires env { IsEnv work.old.bank.now env.now }
+    requires context { IsContext work.old.bank.now context.now }
+    ensures answer { Sorts work.new.bank.now result (λ n. sort_of (env_of work.old.bank.now env.now) n (context_of work.old.bank.now context.now) (tree_of work.old.bank.now term)) work.old.ticks.now.left work.new.ticks.now.left }
+    ensures same_bank { work.new.bank.ghost_name ≡ work.old.bank.ghost_name }
+    ensures same_ticks { work.new.ticks.ghost_name ≡ work.old.ticks.ghost_name }
+    ensures grows { Grows work.old.bank.now work.new.bank.now }
+    ensures budget { work.new.ticks.now.left + work.new.ticks.now.spent ≡ work.old.ticks.now.left + work.old.ticks.now.spent }
+    ensures counted { steps.new + work.old.ticks.now.spent ≡ steps.old + work.new.ticks.now.spent }
+{
+    sort_in(work, env, context, term, steps)
+}
+
+/// Appends a declaration that passes the checks; the bank grows.
 ///
-/// It calls itself as deep as the terms are.
-pub fn declare(
-    bank: &mut Bank<'_>,
+/// A constant is refused, in this order, for a taken name, for a hypothesis in its type or its body (the first
+/// in pre-order is unbound), for a type without a sort, and for a body that has not the type.
+///
+/// A family is refused, in this order, for the first taken name of its own, its constructors' and its
+/// eliminators'; for a hypothesis in the type of a parameter, of an index or of a constructor that is none of
+/// those before it, of the parameters for a constructor; for a parameter or an index without a sort; per constructor,
+/// with the family as one that is being declared, for a type without a sort, and then by `TooBig` for the first argument,
+/// counted from 1, whose sort is above that of a family in `Type`; and then as `Env::add_inductive` does. A
+/// family in `Prop` is eliminated into every sort where it has no constructor, or one whose arguments are all proofs,
+/// else into `Prop` alone; one in `Type` into every sort.
+///
+/// The price is that of the inferences, at one tick a node, and of the weak head forms and comparisons in them; the
+/// budget is spent where the next tick would pass it. After a refusal, want of memory among them, the environment is as before.
+pub fn declare<L: Ledger>(
+    work: &mut Work<'_, '_>,
     env: &mut Env,
     declaration: Declaration,
+    steps: &mut Steps<L>,
 ) -> Result<(), KernelFault>
-    requires declaration { IsPlainDeclaration bank.old declaration }
-    requires env { IsPlainEnv bank.old env.old }
-    ensures answer { Declares bank.new result env.new (declaring (env_of bank.old env.old) bank.old declaration) }
-    ensures added { OnOk result (env.new ≡ env.old ++ entry_by declaration ∷ []) }
+    requires env { IsEnv work.old.bank.now env.old }
+    requires declaration { IsDeclaration work.old.bank.now declaration }
+    ensures answer { Declares work.new.bank.now result env.new (λ n. declare work.old.bank.now (env_of work.old.bank.now env.old) n declaration) work.old.ticks.now.left work.new.ticks.now.left }
+    ensures derived { OnOk result (DerivedEnv (env_of work.old.bank.now env.old) → DerivedEnv (env_of work.new.bank.now env.new)) }
+    ensures env { IsEnv work.new.bank.now env.new }
+    ensures extends { OnOk result (Extends env.old env.new) }
     ensures kept { OnErr result (env.new ≡ env.old) }
-    ensures derived { OnOk result (DerivedEnv (env_of bank.old env.old) → DerivedEnv (env_of bank.new env.new)) }
-    ensures grows { Grows bank.old bank.new }
+    ensures same_bank { work.new.bank.ghost_name ≡ work.old.bank.ghost_name }
+    ensures same_ticks { work.new.ticks.ghost_name ≡ work.old.ticks.ghost_name }
+    ensures grows { Grows work.old.bank.now work.new.bank.now }
+    ensures budget { work.new.ticks.now.left + work.new.ticks.now.spent ≡ work.old.ticks.now.left + work.old.ticks.now.spent }
+    ensures counted { steps.new + work.old.ticks.now.spent ≡ steps.old + work.new.ticks.now.spent }
 {
     match declaration {
         Declaration::Constant {
@@ -102,58 +144,7 @@ pub fn declare(
             kind,
             body,
             opaque,
-        } => {
-            let constant = Constant { kind, body, opaque };
-            add_constant(bank, env, name, constant)
-        }
+        } => declare_constant(work, env, name, kind, body, opaque, steps),
+        Declaration::Inductive(family) => declare_family(work, env, family, steps),
     }
-}
-
-/// Declares a constant.
-fn add_constant(
-    bank: &mut Bank<'_>,
-    env: &mut Env,
-    name: NameId,
-    constant: Constant,
-) -> Result<(), KernelFault>
-    requires name { HasName bank.old name }
-    requires kind { IsPlainTerm bank.old 0 constant.kind }
-    requires body { IsPlainTerm bank.old 0 constant.body }
-    requires env { IsPlainEnv bank.old env.old }
-    ensures answer { Declares bank.new result env.new (adding (env_of bank.old env.old) bank.old name constant) }
-    ensures added { OnOk result (env.new ≡ env.old ++ (name, constant) ∷ []) }
-    ensures kept { OnErr result (env.new ≡ env.old) }
-    ensures derived { OnOk result (DerivedEnv (env_of bank.old env.old) → DerivedEnv (env_of bank.new env.new)) }
-    ensures grows { Grows bank.old bank.new }
-{
-    check_constant(bank, env, name, constant.kind, constant.body)?;
-    env.add(name, constant)?;
-    Ok(())
-}
-
-/// Whether a constant may be added.
-fn check_constant(
-    bank: &mut Bank<'_>,
-    env: &Env,
-    name: NameId,
-    kind: TermId,
-    body: TermId,
-) -> Result<(), KernelFault>
-    requires name { HasName bank.old name }
-    requires kind { IsPlainTerm bank.old 0 kind }
-    requires body { IsPlainTerm bank.old 0 body }
-    requires env { IsPlainEnv bank.old env.now }
-    ensures answer { Accepts bank.new result (env_of bank.old env.now) (text_of bank.old name) (tree_of bank.old kind) (tree_of bank.old body) }
-    ensures is_new { OnOk result (constant_of env.now name ≡ None) }
-    ensures grows { Grows bank.old bank.new }
-{
-    let _text = bank.text(name);
-    if env.lookup(name).is_some() {
-        return Err(KernelFault::Env(EnvFault::NameTaken(name)));
-    }
-    known(bank, &[], kind)?;
-    known(bank, &[], body)?;
-    let mut hypotheses = Vec::new(bank.allocator());
-    has_sort(bank, env, &mut hypotheses, kind)?;
-    has_type(bank, env, &mut hypotheses, body, kind)
 }

@@ -1,12 +1,20 @@
-//! The kernel: it infers types, checks terms and takes declarations.
+//! The kernel: it infers types, checks terms and takes declarations, at a price in ticks.
 #![tactic(auto)]
 
-mod environment;
+mod arities;
+mod constants;
+mod declaration;
+mod declaring;
+mod families;
 mod faults;
+mod forms;
+mod inside;
 mod kernel;
 mod looking;
+mod lookups;
+mod rows;
 mod typing;
 
-pub use environment::{Constant, Env};
-pub use faults::{EnvFault, KernelFault};
-pub use kernel::{Declaration, check, declare, infer};
+pub use declaration::Declaration;
+pub use faults::KernelFault;
+pub use kernel::{check, declare, infer, sort_of};

@@ -1,55 +1,118 @@
-//! Looks at hypotheses: the one of a name, and those of a term that are strange.
+//! The look for strange hypotheses. It keeps its own stack.
 
-ghost use Rattle.std.specs.Prelude.{◌≡◌, map, option_map, IfSome};
-ghost use Rattle.lq_trees.specs.Tree.{Context};
+ghost use Rattle.std.specs.Prelude.{◌≡◌, ◌+◌, ◌<◌, ◌∷◌, [], ◌++◌, map, reverse, option_map, OnOk, IfOk, IfSome};
+ghost use Rattle.std.specs.List.{AllByRecursion};
+ghost use Rattle.lq_trees.specs.Size.{size};
 ghost use Rattle.lq_terms.specs.Terms.{HasName, HasTerm, text_of, tree_of};
-ghost use Rattle.lq_terms.specs.Contexts.{hypothesis_of, context_of};
-ghost use Rattle.lq_calculus.specs.Contraction.{hypothesis};
+ghost use Rattle.lq_terms.specs.Contexts.{context_of};
 ghost use Rattle.lq_calculus.specs.Checking.{strange};
-ghost use Rattle.lq_kernel.specs.Plain.{IsPlain, IsPlainTerm, IsPlainHypothesis, IsPlainContext};
-ghost use Rattle.lq_kernel.specs.Steps.{Knows};
+ghost use Rattle.lq_kernel.specs.Closed.{IsContext};
+ghost use Rattle.lq_kernel.specs.Steps.{Knows, Looked, weight};
 
 use crate::faults::KernelFault;
-use lq_terms::{Bank, Hypothesis, NameId, Node, TermId};
+use crate::lookups::find;
+use lq_terms::{Bank, Hypothesis, NameId, NoMemory, Node, TermId};
 
-/// The first hypothesis of a name.
-pub(crate) fn find(bank: &Bank<'_>, hypotheses: &[Hypothesis], name: NameId) -> Option<Hypothesis>
-    requires context { IsPlainContext bank.now hypotheses.now }
-    requires name { HasName bank.now name }
-    ensures found { option_map (hypothesis_of bank.now) result ≡ hypothesis (context_of bank.now hypotheses.now) (text_of bank.now name) }
-    ensures plain { IfSome result (IsPlainHypothesis bank.now) }
+/// Two terms onto a stack, the first on top.
+fn push_two(stack: &mut Vec<TermId>, first: TermId, second: TermId) -> Result<(), NoMemory>
+    ensures { OnOk result (stack.new.items ≡ stack.old.items ++ second ∷ first ∷ []) }
 {
-    for hypothesis in hypotheses {
-        if bank.same_name(hypothesis.name, name) {
-            return Some(*hypothesis);
-        }
-    }
-    None
+    stack.push(second)?;
+    stack.push(first)?;
+    Ok(())
 }
 
-/// The first hypothesis of a term, in pre-order, whose name is none of the context's. It calls itself
-/// as deep as the term is.
-fn stranger(bank: &Bank<'_>, hypotheses: &[Hypothesis], term: TermId) -> Option<NameId>
-    requires context { IsPlainContext bank.now hypotheses.now }
+/// Three terms onto a stack, the first on top.
+fn push_three(
+    stack: &mut Vec<TermId>,
+    first: TermId,
+    second: TermId,
+    third: TermId,
+) -> Result<(), NoMemory>
+    ensures { OnOk result (stack.new.items ≡ stack.old.items ++ third ∷ second ∷ first ∷ []) }
+{
+    stack.push(third)?;
+    stack.push(second)?;
+    stack.push(first)?;
+    Ok(())
+}
+
+/// Terms onto a stack, the first on top.
+fn push_each(stack: &mut Vec<TermId>, terms: &[TermId]) -> Result<(), NoMemory>
+    ensures { OnOk result (stack.new.items ≡ stack.old.items ++ reverse terms.now) }
+{
+    let mut left = terms.len();
+    while left > 0 {
+        left -= 1;
+        stack.push(terms[left])?;
+    }
+    Ok(())
+}
+
+/// A term's name, if it is a hypothesis that is none of the context's; else its parts go onto the stack,
+/// the first on top.
+fn look(
+    bank: &Bank<'_>,
+    hypotheses: &[Hypothesis],
+    stack: &mut Vec<TermId>,
+    term: TermId,
+) -> Result<Option<NameId>, NoMemory>
+    requires context { IsContext bank.now hypotheses.now }
     requires term { HasTerm bank.now term }
-    requires plain { IsPlain (tree_of bank.now term) }
-    ensures found { option_map (text_of bank.now) result ≡ strange (map (λ h. h.name) (context_of bank.now hypotheses.now)) (tree_of bank.now term) }
-    ensures has { IfSome result (HasName bank.now) }
+    requires stack { AllByRecursion (HasTerm bank.now) stack.old.items }
+    ensures looked { IfOk result (λ o. Looked bank.now (map (λ h. h.name) (context_of bank.now hypotheses.now)) o (tree_of bank.now term) stack.old.items stack.new.items) }
+    ensures has { OnOk result (AllByRecursion (HasTerm bank.now) stack.new.items) }
+    ensures falls { OnOk result (weight (tree_of bank.now) stack.new.items < size (tree_of bank.now term) + weight (tree_of bank.now) stack.old.items) }
 {
     match bank.node(term) {
         Node::Var(name) => match find(bank, hypotheses, *name) {
-            Some(_) => None,
-            None => Some(*name),
+            Some(_) => Ok(None),
+            None => Ok(Some(*name)),
         },
         Node::Prod(_, kind, rest) | Node::Lam(_, kind, rest) => {
-            match stranger(bank, hypotheses, *kind) {
-                Some(name) => Some(name),
-                None => stranger(bank, hypotheses, *rest),
-            }
+            push_two(stack, *kind, *rest)?;
+            Ok(None)
         }
-        Node::Rel(_) | Node::Const(_) | Node::Sort(_) => None,
-        _ => unreachable!(),
+        Node::Let(_, value, kind, rest) => {
+            push_three(stack, *value, *kind, *rest)?;
+            Ok(None)
+        }
+        Node::App(function, argument) => {
+            push_two(stack, *function, *argument)?;
+            Ok(None)
+        }
+        Node::Evar(_, parts) => {
+            push_each(stack, parts.terms())?;
+            Ok(None)
+        }
+        Node::Rel(_)
+        | Node::Sort(_)
+        | Node::Const(_)
+        | Node::Ind(_)
+        | Node::Ctor(..)
+        | Node::Elim(..) => Ok(None),
     }
+}
+
+/// The first hypothesis of a term, in pre-order, whose name is none of the context's.
+fn stranger(
+    bank: &Bank<'_>,
+    hypotheses: &[Hypothesis],
+    term: TermId,
+) -> Result<Option<NameId>, NoMemory>
+    requires context { IsContext bank.now hypotheses.now }
+    requires term { HasTerm bank.now term }
+    ensures found { IfOk result (λ o. option_map (text_of bank.now) o ≡ strange (map (λ h. h.name) (context_of bank.now hypotheses.now)) (tree_of bank.now term)) }
+    ensures has { IfOk result (λ o. IfSome o (HasName bank.now)) }
+{
+    let mut stack = Vec::new(bank.allocator());
+    stack.push(term)?;
+    while let Some(part) = stack.pop() {
+        if let Some(name) = look(bank, hypotheses, &mut stack, part)? {
+            return Ok(Some(name));
+        }
+    }
+    Ok(None)
 }
 
 /// Refuses a term with a hypothesis whose name is none of the context's: the first such.
@@ -58,11 +121,11 @@ pub(crate) fn known(
     hypotheses: &[Hypothesis],
     term: TermId,
 ) -> Result<(), KernelFault>
-    requires context { IsPlainContext bank.now hypotheses.now }
-    requires term { IsPlainTerm bank.now 0 term }
+    requires context { IsContext bank.now hypotheses.now }
+    requires term { HasTerm bank.now term }
     ensures { Knows bank.now result (map (λ h. h.name) (context_of bank.now hypotheses.now)) (tree_of bank.now term) }
 {
-    match stranger(bank, hypotheses, term) {
+    match stranger(bank, hypotheses, term)? {
         Some(name) => Err(KernelFault::Unbound(name)),
         None => Ok(()),
     }

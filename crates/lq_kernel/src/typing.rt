@@ -1,352 +1,302 @@
 //! Inference. It calls itself as deep as the term is.
 
-ghost use Rattle.std.specs.Prelude.{◌≡◌, ℕ, [], ◌∷◌, ◌++◌};
-ghost use Rattle.lq_trees.specs.declared.Fit.{Fit as Limit};
+ghost use Rattle.std.specs.Prelude.{◌≡◌, ◌+◌, ℕ};
 ghost use Rattle.lq_trees.specs.Tree.{Tree, Context as TreeContext};
-ghost use Rattle.lq_trees.specs.Change.{close};
-ghost use Rattle.lq_trees.specs.Size.{fit};
-ghost use Rattle.lq_terms.specs.Terms.{HasName, HasTerm, IsTerm, text_of, tree_of, Grows};
+ghost use Rattle.lq_terms.specs.Terms.{HasName, text_of, tree_of, Grows};
 ghost use Rattle.lq_terms.specs.Contexts.{context_of};
 ghost use Rattle.lq_calculus.specs.Declarations.{Env as Environment};
-ghost use Rattle.lq_calculus.specs.Typing.{product_sort};
 ghost use Rattle.lq_calculus.specs.Checking.{infer, sort_of, check};
-ghost use Rattle.lq_kernel.specs.Plain.{IsPlainTerm, IsPlainHypothesis, IsPlainContext, IsPlainEnv};
-ghost use Rattle.lq_kernel.specs.Environments.{env_of};
+ghost use Rattle.lq_env.specs.Environments.{IsEnv, env_of};
 ghost use Rattle.lq_kernel.specs.Answers.{Checks};
-ghost use Rattle.lq_kernel.specs.Steps.{Types, Sorts, TypesUnder, Fitted, IsSortOr};
+ghost use Rattle.lq_kernel.specs.Closed.{IsScoped, IsContext};
+ghost use Rattle.lq_kernel.specs.Steps.{Types, Sorts, Products, product_of, inside_of};
 
-use crate::environment::Env;
 use crate::faults::KernelFault;
-use crate::looking::find;
-use lq_terms::{Bank, Hypothesis, NameId, Node, TermId, close, fits, name_under, open, same};
-use lq_trees::{Fit, Sort};
+use crate::forms::{
+    application_kind, as_product, as_sort, definition_kind, function_kind, head_form, matching,
+    product_sort,
+};
+use crate::inside::under;
+use crate::lookups::{
+    constant_type, constructor_type, eliminator_type, family_type, hypothesis_type, sort_type,
+};
+use lq_env::Env;
+use lq_terms::{Context, NameId, Node, Steps, TermId, Work};
+use lq_trees::Sort;
+use std::sync::ledger::Ledger;
 
-/// The last level of the types.
-const LAST_LEVEL: u8 = 3;
-
-/// A term, if it is within the limits.
-fn within_limits(bank: &Bank<'_>, term: TermId) -> Result<TermId, KernelFault>
-    requires { HasTerm bank.now term }
-    ensures { Fitted bank.now result (tree_of bank.now term) }
-{
-    match fits(bank, term) {
-        Fit::Fits => Ok(term),
-        Fit::TooLarge => Err(KernelFault::TooLarge),
-        Fit::TooDeep => Err(KernelFault::TooDeep),
-    }
-}
-
-/// The type of a hypothesis.
-fn hypothesis_type(
-    bank: &Bank<'_>,
-    hypotheses: &[Hypothesis],
-    name: NameId,
-) -> Result<TermId, KernelFault>
-    requires name { HasName bank.now name }
-    requires context { IsPlainContext bank.now hypotheses.now }
-    ensures { (env : Environment) → Types bank.now result (λ n. infer env n (context_of bank.now hypotheses.now) (Tree.Var (text_of bank.now name))) }
-{
-    match find(bank, hypotheses, name) {
-        Some(hypothesis) => within_limits(bank, hypothesis.kind),
-        None => Err(KernelFault::Unbound(name)),
-    }
-}
-
-/// The type of a constant.
-fn constant_type(bank: &Bank<'_>, env: &Env, name: NameId) -> Result<TermId, KernelFault>
-    requires name { HasName bank.now name }
-    requires env { IsPlainEnv bank.now env.now }
-    ensures { (g : TreeContext) → Types bank.now result (λ n. infer (env_of bank.now env.now) n g (Tree.Const (text_of bank.now name))) }
-{
-    let _text = bank.text(name);
-    match env.lookup(name) {
-        Some(constant) => within_limits(bank, constant.kind),
-        None => Err(KernelFault::Unbound(name)),
-    }
-}
-
-/// The type of a sort.
-fn sort_type(bank: &mut Bank<'_>, sort: Sort) -> Result<TermId, KernelFault>
-    ensures answer { (env : Environment) → (g : TreeContext) → Types bank.new result (λ n. infer env n g (Tree.Sort sort)) }
-    ensures grows { Grows bank.old bank.new }
-{
-    let level = match sort {
-        Sort::Base => 0,
-        Sort::Level(level) if level < LAST_LEVEL => level + 1,
-        Sort::Level(_) => return Err(KernelFault::NoSortAbove),
-    };
-    Ok(bank.make(Node::Sort(Sort::Level(level)))?)
-}
-
-/// The sort of a product, by the sorts of its domain and its rest.
-fn product_sort(domain: Sort, rest: Sort) -> Sort
-    ensures { result ≡ product_sort domain rest }
-{
-    match (domain, rest) {
-        (_, Sort::Base) => Sort::Base,
-        (Sort::Base, Sort::Level(level)) => Sort::Level(level),
-        (Sort::Level(first), Sort::Level(second)) => Sort::Level(first.max(second)),
-    }
-}
-
-/// A type that must be a sort.
-fn as_sort(bank: &Bank<'_>, kind: TermId) -> Result<Sort, KernelFault>
-    requires { HasTerm bank.now kind }
-    ensures { IsSortOr bank.now result kind }
-{
-    match bank.node(kind) {
-        Node::Sort(sort) => Ok(*sort),
-        _ => Err(KernelFault::NotASort(kind)),
-    }
-}
-
-/// The type of a term under hypotheses, which stay as they are.
+/// The type of a term under the hypotheses of a context, at a tick for each node before its parts.
 #[cycle(typing)]
-pub(crate) fn type_of(
-    bank: &mut Bank<'_>,
+pub(crate) fn type_of<L: Ledger>(
+    work: &mut Work<'_, '_>,
     env: &Env,
-    hypotheses: &mut Vec<Hypothesis>,
+    context: &Context,
     term: TermId,
+    steps: &mut Steps<L>,
 ) -> Result<TermId, KernelFault>
-    requires term { IsPlainTerm bank.old 0 term }
-    requires env { IsPlainEnv bank.old env.now }
-    requires context { IsPlainContext bank.old hypotheses.old.items }
-    ensures answer { Types bank.new result (λ n. infer (env_of bank.old env.now) n (context_of bank.old hypotheses.old.items) (tree_of bank.old term)) }
-    ensures grows { Grows bank.old bank.new }
-    ensures kept { hypotheses.new.items ≡ hypotheses.old.items }
+    requires term { IsScoped work.old.bank.now 0 term }
+    requires env { IsEnv work.old.bank.now env.now }
+    requires context { IsContext work.old.bank.now context.now }
+    ensures answer { (E : Environment) (G : TreeContext) (T : Tree) → env_of work.old.bank.now env.now ≡ E → context_of work.old.bank.now context.now ≡ G → tree_of work.old.bank.now term ≡ T
+        → Types work.new.bank.now result (λ n. infer E n G T) work.old.ticks.now.left work.new.ticks.now.left }
+    ensures same_bank { work.new.bank.ghost_name ≡ work.old.bank.ghost_name }
+    ensures same_ticks { work.new.ticks.ghost_name ≡ work.old.ticks.ghost_name }
+    ensures grows { Grows work.old.bank.now work.new.bank.now }
+    ensures budget { work.new.ticks.now.left + work.new.ticks.now.spent ≡ work.old.ticks.now.left + work.old.ticks.now.spent }
+    ensures counted { steps.new + work.old.ticks.now.spent ≡ steps.old + work.new.ticks.now.spent }
 {
-    match bank.node(term) {
-        Node::Var(name) => hypothesis_type(bank, hypotheses.as_slice(), *name),
-        Node::Const(name) => constant_type(bank, env, *name),
+    if !work.ticks.take(steps) {
+        return Err(KernelFault::StepsOut);
+    }
+    node_type(work, env, context, term, steps)
+}
+
+/// The type of a term, whose own tick is paid.
+#[cycle(typing)]
+fn node_type<L: Ledger>(
+    work: &mut Work<'_, '_>,
+    env: &Env,
+    context: &Context,
+    term: TermId,
+    steps: &mut Steps<L>,
+) -> Result<TermId, KernelFault>
+    requires term { IsScoped work.old.bank.now 0 term }
+    requires env { IsEnv work.old.bank.now env.now }
+    requires context { IsContext work.old.bank.now context.now }
+    ensures answer { (E : Environment) (G : TreeContext) (T : Tree) → env_of work.old.bank.now env.now ≡ E → context_of work.old.bank.now context.now ≡ G → tree_of work.old.bank.now term ≡ T
+        → Types work.new.bank.now result (inside_of E G T) work.old.ticks.now.left work.new.ticks.now.left }
+    ensures same_bank { work.new.bank.ghost_name ≡ work.old.bank.ghost_name }
+    ensures same_ticks { work.new.ticks.ghost_name ≡ work.old.ticks.ghost_name }
+    ensures grows { Grows work.old.bank.now work.new.bank.now }
+    ensures budget { work.new.ticks.now.left + work.new.ticks.now.spent ≡ work.old.ticks.now.left + work.old.ticks.now.spent }
+    ensures counted { steps.new + work.old.ticks.now.spent ≡ steps.old + work.new.ticks.now.spent }
+{
+    match work.bank.node(term) {
+        Node::Rel(_) => unreachable!(),
+        Node::Var(name) => hypothesis_type(work.bank, context.hypotheses(), *name),
         Node::Sort(sort) => {
             let sort = *sort;
-            sort_type(bank, sort)
+            sort_type(work.bank, sort)
         }
         Node::Prod(binder, kind, rest) => {
             let (binder, kind, rest) = (*binder, *kind, *rest);
-            product_type(bank, env, hypotheses, binder, kind, rest)
+            product_type(work, env, context, binder, kind, rest, steps)
         }
         Node::Lam(binder, kind, rest) => {
             let (binder, kind, rest) = (*binder, *kind, *rest);
-            function_type(bank, env, hypotheses, binder, kind, rest)
+            function_type(work, env, context, binder, kind, rest, steps)
         }
-        _ => unreachable!(),
+        Node::Let(binder, value, kind, rest) => {
+            let (binder, value, kind, rest) = (*binder, *value, *kind, *rest);
+            definition_type(work, env, context, binder, value, kind, rest, steps)
+        }
+        Node::App(function, argument) => {
+            let (function, argument) = (*function, *argument);
+            application_type(work, env, context, function, argument, steps)
+        }
+        Node::Const(name) => constant_type(work.bank, env, *name),
+        Node::Ind(name) => family_type(work.bank, env, *name),
+        Node::Ctor(name, index) => {
+            let (name, index) = (*name, *index);
+            constructor_type(work.bank, env, name, index)
+        }
+        Node::Elim(name, sort) => eliminator_type(work.bank, env, *name, *sort),
+        Node::Evar(index, _) => Err(KernelFault::HasVariable(*index)),
     }
 }
 
-/// The type of a product.
+/// The sort of a term that must have one.
 #[cycle(typing)]
-fn product_type(
-    bank: &mut Bank<'_>,
+pub(crate) fn sort_in<L: Ledger>(
+    work: &mut Work<'_, '_>,
     env: &Env,
-    hypotheses: &mut Vec<Hypothesis>,
-    binder: NameId,
-    kind: TermId,
-    rest: TermId,
-) -> Result<TermId, KernelFault>
-    requires binder { HasName bank.old binder }
-    requires kind { IsPlainTerm bank.old 0 kind }
-    requires rest { IsPlainTerm bank.old 1 rest }
-    requires env { IsPlainEnv bank.old env.now }
-    requires context { IsPlainContext bank.old hypotheses.old.items }
-    ensures answer { Types bank.new result (λ n. infer (env_of bank.old env.now) n (context_of bank.old hypotheses.old.items) (Tree.Prod (text_of bank.old binder) (tree_of bank.old kind) (tree_of bank.old rest))) }
-    ensures grows { Grows bank.old bank.new }
-    ensures kept { hypotheses.new.items ≡ hypotheses.old.items }
-{
-    let domain = sort_in(bank, env, hypotheses, kind)?;
-    let (_, last) = type_under(bank, env, hypotheses, binder, kind, rest)?;
-    let last = as_sort(bank, last)?;
-    Ok(bank.make(Node::Sort(product_sort(domain, last)))?)
-}
-
-/// The type of an abstraction.
-#[cycle(typing)]
-fn function_type(
-    bank: &mut Bank<'_>,
-    env: &Env,
-    hypotheses: &mut Vec<Hypothesis>,
-    binder: NameId,
-    kind: TermId,
-    rest: TermId,
-) -> Result<TermId, KernelFault>
-    requires binder { HasName bank.old binder }
-    requires kind { IsPlainTerm bank.old 0 kind }
-    requires rest { IsPlainTerm bank.old 1 rest }
-    requires env { IsPlainEnv bank.old env.now }
-    requires context { IsPlainContext bank.old hypotheses.old.items }
-    ensures answer { Types bank.new result (λ n. infer (env_of bank.old env.now) n (context_of bank.old hypotheses.old.items) (Tree.Lam (text_of bank.old binder) (tree_of bank.old kind) (tree_of bank.old rest))) }
-    ensures grows { Grows bank.old bank.new }
-    ensures kept { hypotheses.new.items ≡ hypotheses.old.items }
-{
-    sort_in(bank, env, hypotheses, kind)?;
-    let (name, body) = type_under(bank, env, hypotheses, binder, kind, rest)?;
-    function_kind(bank, binder, kind, name, body)
-}
-
-/// The product of a kind and the type of a function's body under a hypothesis of that name.
-fn function_kind(
-    bank: &mut Bank<'_>,
-    binder: NameId,
-    kind: TermId,
-    name: NameId,
-    body: TermId,
-) -> Result<TermId, KernelFault>
-    requires binder { HasName bank.old binder }
-    requires kind { HasTerm bank.old kind }
-    requires name { HasName bank.old name }
-    requires body { IsPlainTerm bank.old 0 body }
-    requires fits { fit (tree_of bank.old body) ≡ Limit.Fits }
-    ensures answer { Fitted bank.new result (Tree.Prod (text_of bank.old binder) (tree_of bank.old kind) (close (text_of bank.old name) (tree_of bank.old body))) }
-    ensures grows { Grows bank.old bank.new }
-{
-    let rest = close(bank, body, name)?;
-    let product = bank.make(Node::Prod(binder, kind, rest))?;
-    within_limits(bank, product)
-}
-
-/// The sort of a term under hypotheses, which stay as they are.
-#[cycle(typing)]
-pub(crate) fn sort_in(
-    bank: &mut Bank<'_>,
-    env: &Env,
-    hypotheses: &mut Vec<Hypothesis>,
+    context: &Context,
     term: TermId,
+    steps: &mut Steps<L>,
 ) -> Result<Sort, KernelFault>
-    requires term { IsPlainTerm bank.old 0 term }
-    requires env { IsPlainEnv bank.old env.now }
-    requires context { IsPlainContext bank.old hypotheses.old.items }
-    ensures answer { Sorts bank.new result (λ n. sort_of (env_of bank.old env.now) n (context_of bank.old hypotheses.old.items) (tree_of bank.old term)) }
-    ensures grows { Grows bank.old bank.new }
-    ensures kept { hypotheses.new.items ≡ hypotheses.old.items }
+    requires term { IsScoped work.old.bank.now 0 term }
+    requires env { IsEnv work.old.bank.now env.now }
+    requires context { IsContext work.old.bank.now context.now }
+    ensures answer { (E : Environment) (G : TreeContext) (T : Tree) → env_of work.old.bank.now env.now ≡ E → context_of work.old.bank.now context.now ≡ G → tree_of work.old.bank.now term ≡ T
+        → Sorts work.new.bank.now result (λ n. sort_of E n G T) work.old.ticks.now.left work.new.ticks.now.left }
+    ensures same_bank { work.new.bank.ghost_name ≡ work.old.bank.ghost_name }
+    ensures same_ticks { work.new.ticks.ghost_name ≡ work.old.ticks.ghost_name }
+    ensures grows { Grows work.old.bank.now work.new.bank.now }
+    ensures budget { work.new.ticks.now.left + work.new.ticks.now.spent ≡ work.old.ticks.now.left + work.old.ticks.now.spent }
+    ensures counted { steps.new + work.old.ticks.now.spent ≡ steps.old + work.new.ticks.now.spent }
 {
-    let kind = type_of(bank, env, hypotheses, term)?;
-    as_sort(bank, kind)
+    let kind = type_of(work, env, context, term, steps)?;
+    let form = head_form(work, env, context, kind, steps)?;
+    as_sort(work.bank, form)
 }
 
-/// The name of the variable under a binder, and the type of what stands under it.
+/// The domain and the rest of the product that the type of a function must be.
 #[cycle(typing)]
-fn type_under(
-    bank: &mut Bank<'_>,
+fn product_in<L: Ledger>(
+    work: &mut Work<'_, '_>,
     env: &Env,
-    hypotheses: &mut Vec<Hypothesis>,
-    binder: NameId,
-    kind: TermId,
-    rest: TermId,
-) -> Result<(NameId, TermId), KernelFault>
-    requires binder { HasName bank.old binder }
-    requires kind { IsPlainTerm bank.old 0 kind }
-    requires rest { IsPlainTerm bank.old 1 rest }
-    requires env { IsPlainEnv bank.old env.now }
-    requires context { IsPlainContext bank.old hypotheses.old.items }
-    ensures answer { TypesUnder bank.new result (env_of bank.old env.now) (context_of bank.old hypotheses.old.items) (text_of bank.old binder) (tree_of bank.old kind) (tree_of bank.old rest) }
-    ensures grows { Grows bank.old bank.new }
-    ensures kept { hypotheses.new.items ≡ hypotheses.old.items }
-{
-    let name = name_under(bank, hypotheses.as_slice(), binder)?;
-    let rest = open(bank, rest, name)?;
-    let hypothesis = Hypothesis {
-        name,
-        body: None,
-        kind,
-    };
-    let kind = type_with(bank, env, hypotheses, hypothesis, rest)?;
-    Ok((name, kind))
-}
-
-/// The type of a term under hypotheses, which stay as they are, and one more.
-#[cycle(typing)]
-fn type_with(
-    bank: &mut Bank<'_>,
-    env: &Env,
-    hypotheses: &mut Vec<Hypothesis>,
-    hypothesis: Hypothesis,
+    context: &Context,
     term: TermId,
-) -> Result<TermId, KernelFault>
-    requires term { IsPlainTerm bank.old 0 term }
-    requires env { IsPlainEnv bank.old env.now }
-    requires context { IsPlainContext bank.old hypotheses.old.items }
-    requires hypothesis { IsPlainHypothesis bank.old hypothesis }
-    ensures answer { Types bank.new result (λ n. infer (env_of bank.old env.now) n (context_of bank.old (hypotheses.old.items ++ hypothesis ∷ [])) (tree_of bank.old term)) }
-    ensures grows { Grows bank.old bank.new }
-    ensures kept { hypotheses.new.items ≡ hypotheses.old.items }
+    steps: &mut Steps<L>,
+) -> Result<(TermId, TermId), KernelFault>
+    requires term { IsScoped work.old.bank.now 0 term }
+    requires env { IsEnv work.old.bank.now env.now }
+    requires context { IsContext work.old.bank.now context.now }
+    ensures answer { (E : Environment) (G : TreeContext) (T : Tree) → env_of work.old.bank.now env.now ≡ E → context_of work.old.bank.now context.now ≡ G → tree_of work.old.bank.now term ≡ T
+        → Products work.new.bank.now result (λ n. product_of E n G T) work.old.ticks.now.left work.new.ticks.now.left }
+    ensures same_bank { work.new.bank.ghost_name ≡ work.old.bank.ghost_name }
+    ensures same_ticks { work.new.ticks.ghost_name ≡ work.old.ticks.ghost_name }
+    ensures grows { Grows work.old.bank.now work.new.bank.now }
+    ensures budget { work.new.ticks.now.left + work.new.ticks.now.spent ≡ work.old.ticks.now.left + work.old.ticks.now.spent }
+    ensures counted { steps.new + work.old.ticks.now.spent ≡ steps.old + work.new.ticks.now.spent }
 {
-    hypotheses.push(hypothesis)?;
-    let kind = type_of(bank, env, hypotheses, term);
-    hypotheses.pop();
-    kind
+    let kind = type_of(work, env, context, term, steps)?;
+    let form = head_form(work, env, context, kind, steps)?;
+    as_product(work.bank, form)
 }
 
-/// Whether a term has a type: its own is inferred and compared.
-pub(crate) fn check_in(
-    bank: &mut Bank<'_>,
+/// Refuses a term that has not the type: its own is inferred, and the two are compared.
+#[cycle(typing)]
+pub(crate) fn check_in<L: Ledger>(
+    work: &mut Work<'_, '_>,
     env: &Env,
-    hypotheses: &mut Vec<Hypothesis>,
+    context: &Context,
     term: TermId,
     wanted: TermId,
+    steps: &mut Steps<L>,
 ) -> Result<(), KernelFault>
-    requires term { IsPlainTerm bank.old 0 term }
-    requires wanted { IsPlainTerm bank.old 0 wanted }
-    requires env { IsPlainEnv bank.old env.now }
-    requires context { IsPlainContext bank.old hypotheses.old.items }
-    ensures answer { Checks bank.new result (λ n. check (env_of bank.old env.now) n (context_of bank.old hypotheses.old.items) (tree_of bank.old term) (tree_of bank.old wanted)) }
-    ensures grows { Grows bank.old bank.new }
-    ensures kept { hypotheses.new.items ≡ hypotheses.old.items }
+    requires term { IsScoped work.old.bank.now 0 term }
+    requires wanted { IsScoped work.old.bank.now 0 wanted }
+    requires env { IsEnv work.old.bank.now env.now }
+    requires context { IsContext work.old.bank.now context.now }
+    ensures answer { (E : Environment) (G : TreeContext) (T U : Tree) → env_of work.old.bank.now env.now ≡ E → context_of work.old.bank.now context.now ≡ G → tree_of work.old.bank.now term ≡ T → tree_of work.old.bank.now wanted ≡ U
+        → Checks work.new.bank.now result (λ n. check E n G T U) work.old.ticks.now.left work.new.ticks.now.left }
+    ensures same_bank { work.new.bank.ghost_name ≡ work.old.bank.ghost_name }
+    ensures same_ticks { work.new.ticks.ghost_name ≡ work.old.ticks.ghost_name }
+    ensures grows { Grows work.old.bank.now work.new.bank.now }
+    ensures budget { work.new.ticks.now.left + work.new.ticks.now.spent ≡ work.old.ticks.now.left + work.old.ticks.now.spent }
+    ensures counted { steps.new + work.old.ticks.now.spent ≡ steps.old + work.new.ticks.now.spent }
 {
-    let found = type_of(bank, env, hypotheses, term)?;
-    if same(bank, found, wanted) {
-        Ok(())
-    } else {
-        Err(KernelFault::Mismatch(found, wanted))
-    }
+    let found = type_of(work, env, context, term, steps)?;
+    matching(work, env, context, found, wanted, steps)
 }
 
-/// The sort of a term under hypotheses. Where it has one, the terms that were made to find it are
-/// dropped.
-pub(crate) fn has_sort(
-    bank: &mut Bank<'_>,
+/// The type of a product: the sort of its domain and that of its rest give it.
+#[cycle(typing)]
+fn product_type<L: Ledger>(
+    work: &mut Work<'_, '_>,
     env: &Env,
-    hypotheses: &mut Vec<Hypothesis>,
-    term: TermId,
-) -> Result<Sort, KernelFault>
-    requires term { IsPlainTerm bank.old 0 term }
-    requires env { IsPlainEnv bank.old env.now }
-    requires context { IsPlainContext bank.old hypotheses.old.items }
-    ensures answer { Sorts bank.new result (λ n. sort_of (env_of bank.old env.now) n (context_of bank.old hypotheses.old.items) (tree_of bank.old term)) }
-    ensures grows { Grows bank.old bank.new }
-    ensures kept { hypotheses.new.items ≡ hypotheses.old.items }
+    context: &Context,
+    binder: NameId,
+    kind: TermId,
+    rest: TermId,
+    steps: &mut Steps<L>,
+) -> Result<TermId, KernelFault>
+    requires binder { HasName work.old.bank.now binder }
+    requires kind { IsScoped work.old.bank.now 0 kind }
+    requires rest { IsScoped work.old.bank.now 1 rest }
+    requires env { IsEnv work.old.bank.now env.now }
+    requires context { IsContext work.old.bank.now context.now }
+    ensures answer { (E : Environment) (G : TreeContext) → env_of work.old.bank.now env.now ≡ E → context_of work.old.bank.now context.now ≡ G
+        → Types work.new.bank.now result (inside_of E G (Tree.Prod (text_of work.old.bank.now binder) (tree_of work.old.bank.now kind) (tree_of work.old.bank.now rest))) work.old.ticks.now.left work.new.ticks.now.left }
+    ensures same_bank { work.new.bank.ghost_name ≡ work.old.bank.ghost_name }
+    ensures same_ticks { work.new.ticks.ghost_name ≡ work.old.ticks.ghost_name }
+    ensures grows { Grows work.old.bank.now work.new.bank.now }
+    ensures budget { work.new.ticks.now.left + work.new.ticks.now.spent ≡ work.old.ticks.now.left + work.old.ticks.now.spent }
+    ensures counted { steps.new + work.old.ticks.now.spent ≡ steps.old + work.new.ticks.now.spent }
 {
-    let mark = bank.mark();
-    match sort_in(bank, env, hypotheses, term) {
-        Ok(sort) => {
-            bank.undo(mark);
-            Ok(sort)
-        }
-        Err(fault) => Err(fault),
-    }
+    let domain = sort_in(work, env, context, kind, steps)?;
+    let inside = under(work.bank, context, binder, None, kind, rest)?;
+    let last = sort_in(work, env, &inside.context, inside.term, steps)?;
+    Ok(work.bank.make(Node::Sort(product_sort(domain, last)))?)
 }
 
-/// Whether a term has a type. Where it has, the terms that were made to find out are dropped.
-pub(crate) fn has_type(
-    bank: &mut Bank<'_>,
+/// The type of a function, whose domain must have a sort.
+#[cycle(typing)]
+fn function_type<L: Ledger>(
+    work: &mut Work<'_, '_>,
     env: &Env,
-    hypotheses: &mut Vec<Hypothesis>,
-    term: TermId,
-    wanted: TermId,
-) -> Result<(), KernelFault>
-    requires term { IsPlainTerm bank.old 0 term }
-    requires wanted { IsPlainTerm bank.old 0 wanted }
-    requires env { IsPlainEnv bank.old env.now }
-    requires context { IsPlainContext bank.old hypotheses.old.items }
-    ensures answer { Checks bank.new result (λ n. check (env_of bank.old env.now) n (context_of bank.old hypotheses.old.items) (tree_of bank.old term) (tree_of bank.old wanted)) }
-    ensures grows { Grows bank.old bank.new }
-    ensures kept { hypotheses.new.items ≡ hypotheses.old.items }
+    context: &Context,
+    binder: NameId,
+    kind: TermId,
+    rest: TermId,
+    steps: &mut Steps<L>,
+) -> Result<TermId, KernelFault>
+    requires binder { HasName work.old.bank.now binder }
+    requires kind { IsScoped work.old.bank.now 0 kind }
+    requires rest { IsScoped work.old.bank.now 1 rest }
+    requires env { IsEnv work.old.bank.now env.now }
+    requires context { IsContext work.old.bank.now context.now }
+    ensures answer { (E : Environment) (G : TreeContext) → env_of work.old.bank.now env.now ≡ E → context_of work.old.bank.now context.now ≡ G
+        → Types work.new.bank.now result (inside_of E G (Tree.Lam (text_of work.old.bank.now binder) (tree_of work.old.bank.now kind) (tree_of work.old.bank.now rest))) work.old.ticks.now.left work.new.ticks.now.left }
+    ensures same_bank { work.new.bank.ghost_name ≡ work.old.bank.ghost_name }
+    ensures same_ticks { work.new.ticks.ghost_name ≡ work.old.ticks.ghost_name }
+    ensures grows { Grows work.old.bank.now work.new.bank.now }
+    ensures budget { work.new.ticks.now.left + work.new.ticks.now.spent ≡ work.old.ticks.now.left + work.old.ticks.now.spent }
+    ensures counted { steps.new + work.old.ticks.now.spent ≡ steps.old + work.new.ticks.now.spent }
 {
-    let mark = bank.mark();
-    match check_in(bank, env, hypotheses, term, wanted) {
-        Ok(()) => {
-            bank.undo(mark);
-            Ok(())
-        }
-        Err(fault) => Err(fault),
-    }
+    sort_in(work, env, context, kind, steps)?;
+    let inside = under(work.bank, context, binder, None, kind, rest)?;
+    let body = type_of(work, env, &inside.context, inside.term, steps)?;
+    function_kind(work.bank, binder, kind, inside.name, body)
+}
+
+/// The type of a local definition: its type must have a sort, and its value that type.
+#[cycle(typing)]
+fn definition_type<L: Ledger>(
+    work: &mut Work<'_, '_>,
+    env: &Env,
+    context: &Context,
+    binder: NameId,
+    value: TermId,
+    kind: TermId,
+    rest: TermId,
+    steps: &mut Steps<L>,
+) -> Result<TermId, KernelFault>
+    requires binder { HasName work.old.bank.now binder }
+    requires value { IsScoped work.old.bank.now 0 value }
+    requires kind { IsScoped work.old.bank.now 0 kind }
+    requires rest { IsScoped work.old.bank.now 1 rest }
+    requires env { IsEnv work.old.bank.now env.now }
+    requires context { IsContext work.old.bank.now context.now }
+    ensures answer { (E : Environment) (G : TreeContext) → env_of work.old.bank.now env.now ≡ E → context_of work.old.bank.now context.now ≡ G
+        → Types work.new.bank.now result (inside_of E G (Tree.Let (text_of work.old.bank.now binder) (tree_of work.old.bank.now value) (tree_of work.old.bank.now kind) (tree_of work.old.bank.now rest))) work.old.ticks.now.left work.new.ticks.now.left }
+    ensures same_bank { work.new.bank.ghost_name ≡ work.old.bank.ghost_name }
+    ensures same_ticks { work.new.ticks.ghost_name ≡ work.old.ticks.ghost_name }
+    ensures grows { Grows work.old.bank.now work.new.bank.now }
+    ensures budget { work.new.ticks.now.left + work.new.ticks.now.spent ≡ work.old.ticks.now.left + work.old.ticks.now.spent }
+    ensures counted { steps.new + work.old.ticks.now.spent ≡ steps.old + work.new.ticks.now.spent }
+{
+    sort_in(work, env, context, kind, steps)?;
+    check_in(work, env, context, value, kind, steps)?;
+    let inside = under(work.bank, context, binder, Some(value), kind, rest)?;
+    let body = type_of(work, env, &inside.context, inside.term, steps)?;
+    definition_kind(work.bank, value, inside.name, body)
+}
+
+/// The type of an application: that of the function must be a product, and the argument must have its domain.
+#[cycle(typing)]
+fn application_type<L: Ledger>(
+    work: &mut Work<'_, '_>,
+    env: &Env,
+    context: &Context,
+    function: TermId,
+    argument: TermId,
+    steps: &mut Steps<L>,
+) -> Result<TermId, KernelFault>
+    requires function { IsScoped work.old.bank.now 0 function }
+    requires argument { IsScoped work.old.bank.now 0 argument }
+    requires env { IsEnv work.old.bank.now env.now }
+    requires context { IsContext work.old.bank.now context.now }
+    ensures answer { (E : Environment) (G : TreeContext) → env_of work.old.bank.now env.now ≡ E → context_of work.old.bank.now context.now ≡ G
+        → Types work.new.bank.now result (inside_of E G (Tree.App (tree_of work.old.bank.now function) (tree_of work.old.bank.now argument))) work.old.ticks.now.left work.new.ticks.now.left }
+    ensures same_bank { work.new.bank.ghost_name ≡ work.old.bank.ghost_name }
+    ensures same_ticks { work.new.ticks.ghost_name ≡ work.old.ticks.ghost_name }
+    ensures grows { Grows work.old.bank.now work.new.bank.now }
+    ensures budget { work.new.ticks.now.left + work.new.ticks.now.spent ≡ work.old.ticks.now.left + work.old.ticks.now.spent }
+    ensures counted { steps.new + work.old.ticks.now.spent ≡ steps.old + work.new.ticks.now.spent }
+{
+    let (domain, rest) = product_in(work, env, context, function, steps)?;
+    check_in(work, env, context, argument, domain, steps)?;
+    application_kind(work.bank, argument, rest)
 }

@@ -1,144 +1,205 @@
-use Rattle.std.proofs.Common.{sym, subst, ap, ◌≡◌, ◌∙◌, ◌+◌, ◌*◌, arith, Ok, Err}
+use Rattle.std.proofs.Common.{◌≡◌, ◌∙◌, refl, ap, arith}
 use Rattle.lq_trees.proofs.Sizes.{one-le-size}
 use Rattle.lq_trees.specs.Size.{size}
-use Rattle.lq_trees.specs.Tree.{Tree}
+use Rattle.lq_trees.specs.Fresh.{fresh}
 use Rattle.lq_terms.specs.Terms.{text_of, tree_of}
 use Rattle.lq_terms.specs.Contexts.{context_of}
 use Rattle.lq_terms.proofs.Growth.{Grows-trans}
-use Rattle.lq_trees.specs.Fresh.{fresh}
-use Rattle.lq_calculus.specs.Typing.{product_sort}
-use Rattle.lq_calculus.specs.Checking.{infer}
-use Rattle.lq_kernel.specs.Plain.{IsPlainContext}
-use Rattle.lq_kernel.specs.Environments.{env_of}
-use Rattle.lq_kernel.specs.Steps.{Types, TypesUnder, Fitted}
-use Rattle.lq_kernel.proofs.Grown.{IsPlainTerm-grown, IsPlainEnv-grown, IsPlainContext-grown, still}
-use Rattle.lq_kernel.proofs.Cycle.{moved, sorts_stop, sorts_end, product_domain, product_rest, product_last, product_made, function_domain, function_body, function_made, open_size, open_plain, open_hypothesis, under_stops, under_ends, name_at, fitted_at, sort_made}
+use Rattle.lq_kernel.proofs.Grown.{IsScoped-grown, IsEnv-grown, IsContext-grown, env_at, context_at, tree_at, text_at, inside_scoped, let_inside}
+use Rattle.lq_kernel.proofs.FormLaws.{sort_sorts, product_products}
+use Rattle.lq_kernel.proofs.Cycle.{sorts_stop, sorts_form_stop, sorts_end, products_stop, products_form_stop, products_end, checks_stop, checks_end, ticked, out_of_ticks, evar_work, prod_domain_stops, prod_rest_stops, prod_ends, lam_domain_stops, lam_body_stops, lam_ends, let_domain_stops, let_value_stops, let_rest_stops, let_ends, app_function_stops, app_argument_stops, app_ends, inside_size}
 use Rattle.lq_kernel.proofs.typing.+typing.Goals as goal
 
 pub sort_in-returns-in_err-kind-clause-answer : goal.sort_in-returns-in_err-kind-clause-answer
-sort_in-returns-in_err-kind-clause-answer t c =
-    sorts_stop (env_of c.args.bank.now c.args.env.now) (context_of c.args.bank.now c.args.hypotheses.now.items) (tree_of c.args.bank.now c.args.term) c.type_of.new.bank c.from_residual.result c.in_err-kind.field-0.0 c.from_residual.ensures.1
-    c.in_err-kind.ensures.answer
+sort_in-returns-in_err-kind-clause-answer g t c E G T e k i =
+    sorts_stop E G T c.type_of.new.work.bank.now c.args.work.now.ticks.now.left c.type_of.new.work.ticks.now.left c.from_residual.result c.in_err-kind.field-0.0 c.from_residual.ensures.1 (c.in_err-kind.ensures.answer E G T e k i)
+
+pub sort_in-head_form-requires-clause-env : goal.sort_in-head_form-requires-clause-env
+sort_in-head_form-requires-clause-env g t c =
+    IsEnv-grown c.args.work.now.bank.now c.type_of.new.work.bank.now c.in_ok-kind.ensures.grows c.args.env.now c.requires.env
+
+pub sort_in-head_form-requires-clause-context : goal.sort_in-head_form-requires-clause-context
+sort_in-head_form-requires-clause-context g t c =
+    IsContext-grown c.args.work.now.bank.now c.type_of.new.work.bank.now c.in_ok-kind.ensures.grows c.args.context.now c.requires.context
+
+pub sort_in-returns-in_err-form-clause-answer : goal.sort_in-returns-in_err-form-clause-answer
+sort_in-returns-in_err-form-clause-answer g t c E G T e k i =
+    sorts_form_stop E G T c.head_form.new.work.bank.now c.args.work.now.ticks.now.left c.head_form.new.work.ticks.now.left (tree_of c.type_of.new.work.bank.now c.in_ok-kind.kind) c.type_of.new.work.ticks.now.left c.from_residual-in_err-form.result c.in_err-form.field-0.0 c.from_residual-in_err-form.ensures.1 (c.in_ok-kind.ensures.answer E G T e k i).1
+    (c.in_err-form.ensures.answer E G (tree_of c.type_of.new.work.bank.now c.in_ok-kind.kind) (env_at c.args.work.now.bank.now c.type_of.new.work.bank.now c.in_ok-kind.ensures.grows c.args.env.now E c.requires.env e) (context_at c.args.work.now.bank.now c.type_of.new.work.bank.now c.in_ok-kind.ensures.grows c.args.context.now G c.requires.context k) refl)
 
 pub sort_in-returns-clause-answer : goal.sort_in-returns-clause-answer
-sort_in-returns-clause-answer t c =
-    sorts_end (env_of c.args.bank.now c.args.env.now) (context_of c.args.bank.now c.args.hypotheses.now.items) (tree_of c.args.bank.now c.args.term) c.type_of.new.bank c.in_ok-kind.kind c.as_sort.result
-    (still c.args.bank.now c.args.env.now c.args.hypotheses.now.items c.requires.env c.requires.context) c.in_ok-kind.ensures.answer c.as_sort.ensures
+sort_in-returns-clause-answer g t c E G T e k i =
+    sorts_end E G T c.head_form.new.work.bank.now c.args.work.now.ticks.now.left c.head_form.new.work.ticks.now.left (tree_of c.type_of.new.work.bank.now c.in_ok-kind.kind) (tree_of c.head_form.new.work.bank.now c.in_ok-form.form) c.type_of.new.work.ticks.now.left c.as_sort.result (c.in_ok-kind.ensures.answer E G T e k i).1
+    (c.in_ok-form.ensures.answer E G (tree_of c.type_of.new.work.bank.now c.in_ok-kind.kind) (env_at c.args.work.now.bank.now c.type_of.new.work.bank.now c.in_ok-kind.ensures.grows c.args.env.now E c.requires.env e) (context_at c.args.work.now.bank.now c.type_of.new.work.bank.now c.in_ok-kind.ensures.grows c.args.context.now G c.requires.context k) refl).1 (sort_sorts c.head_form.new.work.bank.now c.as_sort.result c.in_ok-form.form c.head_form.new.work.ticks.now.left (c.in_ok-form.ensures.answer E G (tree_of c.type_of.new.work.bank.now c.in_ok-kind.kind) (env_at c.args.work.now.bank.now c.type_of.new.work.bank.now c.in_ok-kind.ensures.grows c.args.env.now E c.requires.env e) (context_at c.args.work.now.bank.now c.type_of.new.work.bank.now c.in_ok-kind.ensures.grows c.args.context.now G c.requires.context k) refl).0.term.has c.as_sort.ensures)
 
-pub type_with-returns-clause-answer : goal.type_with-returns-clause-answer
-type_with-returns-clause-answer t c =
-    subst (λ hs. Types c.type_of-kind.new.bank c.type_of-kind.result (λ n. infer (env_of c.args.bank.now c.args.env.now) n (context_of c.args.bank.now hs) (tree_of c.args.bank.now c.args.term))) c.in_ok-push.ensures.items c.type_of-kind.ensures.answer
+pub product_in-returns-in_err-kind-clause-answer : goal.product_in-returns-in_err-kind-clause-answer
+product_in-returns-in_err-kind-clause-answer g t c E G T e k i =
+    products_stop E G T c.type_of.new.work.bank.now c.args.work.now.ticks.now.left c.type_of.new.work.ticks.now.left c.from_residual.result c.in_err-kind.field-0.0 c.from_residual.ensures.1 (c.in_err-kind.ensures.answer E G T e k i)
 
-pub type_under-type_with-requires : goal.type_under-type_with-requires
-type_under-type_with-requires t c =
-    let same_size : size (tree_of c.open.new.bank c.in_ok-rest.rest) ≡ size (tree_of c.args.bank.now c.args.rest) = open_size c.args.bank.now c.name_under.new.bank c.open.new.bank c.args.env.now c.args.hypotheses.now.items c.args.binder c.in_ok-name.name c.args.kind c.args.rest c.in_ok-rest.rest c.in_ok-name.ensures.grows c.in_ok-rest.ensures.grows c.requires.env c.requires.context c.requires.kind c.requires.rest
-    (name_at c.args.bank.now c.name_under.new.bank c.args.hypotheses.now.items _ c.args.binder c.in_ok-name.name c.as_slice.ensures.value c.in_ok-name.ensures.name) c.in_ok-rest.ensures.opened in (
-      omega arith,
-      (
-        open_plain c.args.bank.now c.name_under.new.bank c.open.new.bank c.args.env.now c.args.hypotheses.now.items c.args.binder c.in_ok-name.name c.args.kind c.args.rest c.in_ok-rest.rest c.in_ok-name.ensures.grows c.in_ok-rest.ensures.grows c.requires.env c.requires.context c.requires.kind c.requires.rest
-            (name_at c.args.bank.now c.name_under.new.bank c.args.hypotheses.now.items _ c.args.binder c.in_ok-name.name c.as_slice.ensures.value c.in_ok-name.ensures.name) c.in_ok-rest.ensures.opened,
-        (
-          IsPlainEnv-grown c.args.bank.now c.open.new.bank (Grows-trans c.args.bank.now c.name_under.new.bank c.open.new.bank c.in_ok-name.ensures.grows c.in_ok-rest.ensures.grows) c.args.env.now c.requires.env,
-          (
-            IsPlainContext-grown c.args.bank.now c.open.new.bank (Grows-trans c.args.bank.now c.name_under.new.bank c.open.new.bank c.in_ok-name.ensures.grows c.in_ok-rest.ensures.grows) c.args.hypotheses.now.items c.requires.context,
-            open_hypothesis c.args.bank.now c.name_under.new.bank c.open.new.bank c.args.env.now c.args.hypotheses.now.items c.args.binder c.in_ok-name.name c.args.kind c.args.rest c.in_ok-rest.rest c.in_ok-name.ensures.grows c.in_ok-rest.ensures.grows c.requires.env c.requires.context c.requires.kind c.requires.rest
-                (name_at c.args.bank.now c.name_under.new.bank c.args.hypotheses.now.items _ c.args.binder c.in_ok-name.name c.as_slice.ensures.value c.in_ok-name.ensures.name) c.in_ok-rest.ensures.opened,
-          ),
-        ),
-      ),
+pub product_in-head_form-requires-clause-env : goal.product_in-head_form-requires-clause-env
+product_in-head_form-requires-clause-env g t c =
+    IsEnv-grown c.args.work.now.bank.now c.type_of.new.work.bank.now c.in_ok-kind.ensures.grows c.args.env.now c.requires.env
+
+pub product_in-head_form-requires-clause-context : goal.product_in-head_form-requires-clause-context
+product_in-head_form-requires-clause-context g t c =
+    IsContext-grown c.args.work.now.bank.now c.type_of.new.work.bank.now c.in_ok-kind.ensures.grows c.args.context.now c.requires.context
+
+pub product_in-returns-in_err-form-clause-answer : goal.product_in-returns-in_err-form-clause-answer
+product_in-returns-in_err-form-clause-answer g t c E G T e k i =
+    products_form_stop E G T c.head_form.new.work.bank.now c.args.work.now.ticks.now.left c.head_form.new.work.ticks.now.left (tree_of c.type_of.new.work.bank.now c.in_ok-kind.kind) c.type_of.new.work.ticks.now.left c.from_residual-in_err-form.result c.in_err-form.field-0.0 c.from_residual-in_err-form.ensures.1 (c.in_ok-kind.ensures.answer E G T e k i).1
+    (c.in_err-form.ensures.answer E G (tree_of c.type_of.new.work.bank.now c.in_ok-kind.kind) (env_at c.args.work.now.bank.now c.type_of.new.work.bank.now c.in_ok-kind.ensures.grows c.args.env.now E c.requires.env e) (context_at c.args.work.now.bank.now c.type_of.new.work.bank.now c.in_ok-kind.ensures.grows c.args.context.now G c.requires.context k) refl)
+
+pub product_in-returns-clause-answer : goal.product_in-returns-clause-answer
+product_in-returns-clause-answer g t c E G T e k i =
+    products_end E G T c.head_form.new.work.bank.now c.args.work.now.ticks.now.left c.head_form.new.work.ticks.now.left (tree_of c.type_of.new.work.bank.now c.in_ok-kind.kind) (tree_of c.head_form.new.work.bank.now c.in_ok-form.form) c.type_of.new.work.ticks.now.left c.as_product.result (c.in_ok-kind.ensures.answer E G T e k i).1
+    (c.in_ok-form.ensures.answer E G (tree_of c.type_of.new.work.bank.now c.in_ok-kind.kind) (env_at c.args.work.now.bank.now c.type_of.new.work.bank.now c.in_ok-kind.ensures.grows c.args.env.now E c.requires.env e) (context_at c.args.work.now.bank.now c.type_of.new.work.bank.now c.in_ok-kind.ensures.grows c.args.context.now G c.requires.context k) refl).1 (product_products c.head_form.new.work.bank.now c.as_product.result c.in_ok-form.form c.head_form.new.work.ticks.now.left (c.in_ok-form.ensures.answer E G (tree_of c.type_of.new.work.bank.now c.in_ok-kind.kind) (env_at c.args.work.now.bank.now c.type_of.new.work.bank.now c.in_ok-kind.ensures.grows c.args.env.now E c.requires.env e) (context_at c.args.work.now.bank.now c.type_of.new.work.bank.now c.in_ok-kind.ensures.grows c.args.context.now G c.requires.context k) refl).0.term.has (c.in_ok-form.ensures.answer E G (tree_of c.type_of.new.work.bank.now c.in_ok-kind.kind) (env_at c.args.work.now.bank.now c.type_of.new.work.bank.now c.in_ok-kind.ensures.grows c.args.env.now E c.requires.env e) (context_at c.args.work.now.bank.now c.type_of.new.work.bank.now c.in_ok-kind.ensures.grows c.args.context.now G c.requires.context k) refl).0.within c.as_product.ensures)
+
+pub check_in-returns-in_err-found-clause-answer : goal.check_in-returns-in_err-found-clause-answer
+check_in-returns-in_err-found-clause-answer g t c E G T U e k i j =
+    checks_stop E G T c.type_of.new.work.bank.now c.args.work.now.ticks.now.left c.type_of.new.work.ticks.now.left U c.from_residual.result c.in_err-found.field-0.0 c.from_residual.ensures.1 (c.in_err-found.ensures.answer E G T e k i)
+
+pub check_in-matching-requires-clause-env : goal.check_in-matching-requires-clause-env
+check_in-matching-requires-clause-env g t c =
+    IsEnv-grown c.args.work.now.bank.now c.type_of.new.work.bank.now c.in_ok-found.ensures.grows c.args.env.now c.requires.env
+
+pub check_in-matching-requires-clause-context : goal.check_in-matching-requires-clause-context
+check_in-matching-requires-clause-context g t c =
+    IsContext-grown c.args.work.now.bank.now c.type_of.new.work.bank.now c.in_ok-found.ensures.grows c.args.context.now c.requires.context
+
+pub check_in-returns-clause-answer : goal.check_in-returns-clause-answer
+check_in-returns-clause-answer g t c E G T U e k i j =
+    checks_end E G T c.matching.new.work.bank.now c.args.work.now.ticks.now.left c.matching.new.work.ticks.now.left U (tree_of c.type_of.new.work.bank.now c.in_ok-found.found) c.type_of.new.work.ticks.now.left c.matching.result (c.in_ok-found.ensures.answer E G T e k i).1
+    (c.matching.ensures.answer E G (tree_of c.type_of.new.work.bank.now c.in_ok-found.found) U (env_at c.args.work.now.bank.now c.type_of.new.work.bank.now c.in_ok-found.ensures.grows c.args.env.now E c.requires.env e) (context_at c.args.work.now.bank.now c.type_of.new.work.bank.now c.in_ok-found.ensures.grows c.args.context.now G c.requires.context k) refl (tree_at c.args.work.now.bank.now c.type_of.new.work.bank.now c.in_ok-found.ensures.grows c.args.wanted U c.requires.wanted.has j))
+
+pub type_of-returns-then-not-take-clause-answer : goal.type_of-returns-then-not-take-clause-answer
+type_of-returns-then-not-take-clause-answer g t c E G T e k i =
+    out_of_ticks E G T c.args.work.now.ticks.now.left c.take.new.self.left (omega (arith, c.if-not-take.ensures)) (omega (arith, c.if-not-take.ensures))
+
+pub type_of-returns-clause-answer : goal.type_of-returns-clause-answer
+type_of-returns-clause-answer g t c E G T e k i =
+    ticked E G T c.node_type.new.work.bank.now c.node_type.result c.args.work.now.ticks.now.left c.take.new.self.left c.node_type.new.work.ticks.now.left (omega (arith, c.if-not-take.ensures)) (c.node_type.ensures.answer E G T e k i)
+
+pub node_type-returns-in-Evar-clause-answer : goal.node_type-returns-in-Evar-clause-answer
+node_type-returns-in-Evar-clause-answer g t c E G T e k i =
+    evar_work E G c.args.work.now.bank.now _ c.args.term c.in-Evar.index c.in-Evar.field-1 T c.args.work.now.ticks.now.left c.node.ensures.tree c.in-Evar.is i
+
+pub application_type-returns-in_err-domain-clause-answer : goal.application_type-returns-in_err-domain-clause-answer
+application_type-returns-in_err-domain-clause-answer g t c E G e k =
+    app_function_stops E G (tree_of c.args.work.now.bank.now c.args.function) (tree_of c.args.work.now.bank.now c.args.argument) c.product_in.new.work.bank.now c.args.work.now.ticks.now.left c.product_in.new.work.ticks.now.left c.from_residual.result c.in_err-domain.field-0.0 c.from_residual.ensures.1 (c.in_err-domain.ensures.answer E G (tree_of c.args.work.now.bank.now c.args.function) e k refl)
+
+pub application_type-check_in-requires : goal.application_type-check_in-requires
+application_type-check_in-requires g t c κs within =
+    let same : size (tree_of c.product_in.new.work.bank.now c.args.argument) ≡ size (tree_of c.args.work.now.bank.now c.args.argument) = ap size (c.in_ok-domain.ensures.grows.tree c.args.argument c.requires.argument.has) in (
+      omega (arith, one-le-size (tree_of c.args.work.now.bank.now c.args.function)),
+      (within, (IsScoped-grown c.args.work.now.bank.now c.product_in.new.work.bank.now c.in_ok-domain.ensures.grows 0 c.args.argument c.requires.argument, ((c.in_ok-domain.ensures.answer _ _ (tree_of c.args.work.now.bank.now c.args.function) refl refl refl).0.domain, (IsEnv-grown c.args.work.now.bank.now c.product_in.new.work.bank.now c.in_ok-domain.ensures.grows c.args.env.now c.requires.env, IsContext-grown c.args.work.now.bank.now c.product_in.new.work.bank.now c.in_ok-domain.ensures.grows c.args.context.now c.requires.context)))),
     )
 
-pub type_under-returns-in_err-kind-clause-answer : goal.type_under-returns-in_err-kind-clause-answer
-type_under-returns-in_err-kind-clause-answer t c =
-    under_stops c.args.bank.now c.name_under.new.bank c.open.new.bank c.args.env.now c.args.hypotheses.now.items c.args.binder c.in_ok-name.name c.args.kind c.args.rest c.in_ok-rest.rest c.in_ok-name.ensures.grows c.in_ok-rest.ensures.grows c.requires.env c.requires.context c.requires.kind c.requires.rest
-    (name_at c.args.bank.now c.name_under.new.bank c.args.hypotheses.now.items _ c.args.binder c.in_ok-name.name c.as_slice.ensures.value c.in_ok-name.ensures.name) c.in_ok-rest.ensures.opened c.type_with.new.bank c.from_residual-in_err-kind.result c.in_err-kind.field-0.0 c.from_residual-in_err-kind.ensures.1 c.in_err-kind.ensures.answer
+pub application_type-returns-in_err-check_in-clause-answer : goal.application_type-returns-in_err-check_in-clause-answer
+application_type-returns-in_err-check_in-clause-answer g t c E G e k =
+    app_argument_stops E G (tree_of c.args.work.now.bank.now c.args.function) (tree_of c.args.work.now.bank.now c.args.argument) c.check_in.new.work.bank.now c.args.work.now.ticks.now.left c.check_in.new.work.ticks.now.left (tree_of c.product_in.new.work.bank.now c.in_ok-domain.domain, tree_of c.product_in.new.work.bank.now c.in_ok-domain.rest) c.product_in.new.work.ticks.now.left c.from_residual-in_err-check_in.result c.in_err-check_in.field-0.0 c.from_residual-in_err-check_in.ensures.1 (c.in_ok-domain.ensures.answer E G (tree_of c.args.work.now.bank.now c.args.function) e k refl).1
+    (c.in_err-check_in.ensures.answer E G (tree_of c.args.work.now.bank.now c.args.argument) (tree_of c.product_in.new.work.bank.now c.in_ok-domain.domain) (env_at c.args.work.now.bank.now c.product_in.new.work.bank.now c.in_ok-domain.ensures.grows c.args.env.now E c.requires.env e) (context_at c.args.work.now.bank.now c.product_in.new.work.bank.now c.in_ok-domain.ensures.grows c.args.context.now G c.requires.context k) (tree_at c.args.work.now.bank.now c.product_in.new.work.bank.now c.in_ok-domain.ensures.grows c.args.argument (tree_of c.args.work.now.bank.now c.args.argument) c.requires.argument.has refl) refl)
 
-pub type_under-returns-clause-answer : goal.type_under-returns-clause-answer
-type_under-returns-clause-answer t c =
-    under_ends c.args.bank.now c.name_under.new.bank c.open.new.bank c.args.env.now c.args.hypotheses.now.items c.args.binder c.in_ok-name.name c.args.kind c.args.rest c.in_ok-rest.rest c.in_ok-name.ensures.grows c.in_ok-rest.ensures.grows c.requires.env c.requires.context c.requires.kind c.requires.rest
-    (name_at c.args.bank.now c.name_under.new.bank c.args.hypotheses.now.items _ c.args.binder c.in_ok-name.name c.as_slice.ensures.value c.in_ok-name.ensures.name) c.in_ok-rest.ensures.opened c.type_with.new.bank c.in_ok-kind.kind c.in_ok-kind.ensures.grows c.in_ok-kind.ensures.answer
-
-pub function_type-returns-in_err-sort_in-clause-answer : goal.function_type-returns-in_err-sort_in-clause-answer
-function_type-returns-in_err-sort_in-clause-answer t c =
-    function_domain (env_of c.args.bank.now c.args.env.now) (context_of c.args.bank.now c.args.hypotheses.now.items) (text_of c.args.bank.now c.args.binder) (tree_of c.args.bank.now c.args.kind) (tree_of c.args.bank.now c.args.rest)
-    c.sort_in.new.bank c.from_residual.result c.in_err-sort_in.field-0.0 c.from_residual.ensures.1 c.in_err-sort_in.ensures.answer
-
-pub function_type-type_under-requires : goal.function_type-type_under-requires
-function_type-type_under-requires t c =
-    let same_size : size (tree_of c.sort_in.new.bank c.args.rest) ≡ size (tree_of c.args.bank.now c.args.rest) = ap size (c.in_ok-sort_in.ensures.grows.tree c.args.rest c.requires.rest.has) in (
-      omega (arith, one-le-size (tree_of c.args.bank.now c.args.kind)),
-      (
-        omega (arith, c.requires.binder, c.in_ok-sort_in.ensures.grows.names),
-        (
-          IsPlainTerm-grown c.args.bank.now c.sort_in.new.bank c.in_ok-sort_in.ensures.grows 0 c.args.kind c.requires.kind,
-          (
-            IsPlainTerm-grown c.args.bank.now c.sort_in.new.bank c.in_ok-sort_in.ensures.grows 1 c.args.rest c.requires.rest,
-            (IsPlainEnv-grown c.args.bank.now c.sort_in.new.bank c.in_ok-sort_in.ensures.grows c.args.env.now c.requires.env, subst (IsPlainContext c.sort_in.new.bank) (sym c.in_ok-sort_in.ensures.kept) (IsPlainContext-grown c.args.bank.now c.sort_in.new.bank c.in_ok-sort_in.ensures.grows c.args.hypotheses.now.items c.requires.context)),
-          ),
-        ),
-      ),
-    )
-
-pub function_type-returns-in_err-name-clause-answer : goal.function_type-returns-in_err-name-clause-answer
-function_type-returns-in_err-name-clause-answer t c =
-    function_body (env_of c.args.bank.now c.args.env.now) (context_of c.args.bank.now c.args.hypotheses.now.items) (text_of c.args.bank.now c.args.binder) (tree_of c.args.bank.now c.args.kind) (tree_of c.args.bank.now c.args.rest)
-    c.type_under.new.bank c.in_ok-sort_in.field-0 c.from_residual-in_err-name.result c.in_err-name.field-0.0 c.from_residual-in_err-name.ensures.1 c.in_ok-sort_in.ensures.answer
-    (moved c.args.bank.now c.sort_in.new.bank c.args.env.now c.args.hypotheses.now.items c.sort_in.new.hypotheses.items c.args.binder c.args.kind c.args.rest c.in_ok-sort_in.ensures.grows c.requires.env c.requires.context
-    c.in_ok-sort_in.ensures.kept c.requires.binder c.requires.kind.has c.requires.rest.has (TypesUnder c.type_under.new.bank (Err c.in_err-name.field-0.0)) c.in_err-name.ensures.answer)
-
-pub function_type-returns-clause-answer : goal.function_type-returns-clause-answer
-function_type-returns-clause-answer t c =
-    let under_it : TypesUnder c.type_under.new.bank (Ok (c.in_ok-name.name, c.in_ok-name.body)) (env_of c.args.bank.now c.args.env.now) (context_of c.args.bank.now c.args.hypotheses.now.items) (text_of c.args.bank.now c.args.binder) (tree_of c.args.bank.now c.args.kind) (tree_of c.args.bank.now c.args.rest) =
-    (moved c.args.bank.now c.sort_in.new.bank c.args.env.now c.args.hypotheses.now.items c.sort_in.new.hypotheses.items c.args.binder c.args.kind c.args.rest c.in_ok-sort_in.ensures.grows c.requires.env c.requires.context
-    c.in_ok-sort_in.ensures.kept c.requires.binder c.requires.kind.has c.requires.rest.has (TypesUnder c.type_under.new.bank (Ok (c.in_ok-name.name, c.in_ok-name.body))) c.in_ok-name.ensures.answer) in
-    function_made (env_of c.args.bank.now c.args.env.now) (context_of c.args.bank.now c.args.hypotheses.now.items) (text_of c.args.bank.now c.args.binder) (tree_of c.args.bank.now c.args.kind) (tree_of c.args.bank.now c.args.rest)
-    c.type_under.new.bank c.function_kind.new.bank c.in_ok-sort_in.field-0 c.in_ok-name.name c.in_ok-name.body c.function_kind.result c.requires.kind.plain c.requires.kind.below c.in_ok-sort_in.ensures.answer under_it
-    (fitted_at c.args.bank.now c.type_under.new.bank c.function_kind.new.bank c.args.binder c.in_ok-name.name c.args.kind (fresh (context_of c.args.bank.now c.args.hypotheses.now.items) (text_of c.args.bank.now c.args.binder)) (tree_of c.type_under.new.bank c.in_ok-name.body) c.function_kind.result
-    (Grows-trans c.args.bank.now c.sort_in.new.bank c.type_under.new.bank c.in_ok-sort_in.ensures.grows c.in_ok-name.ensures.grows) c.requires.binder c.requires.kind.has under_it.0 c.function_kind.ensures.answer)
+pub application_type-returns-clause-answer : goal.application_type-returns-clause-answer
+application_type-returns-clause-answer g t c E G e k =
+    app_ends E G (tree_of c.args.work.now.bank.now c.args.function) (tree_of c.args.work.now.bank.now c.args.argument) c.application_kind.new.bank c.args.work.now.ticks.now.left c.check_in.new.work.ticks.now.left (tree_of c.product_in.new.work.bank.now c.in_ok-domain.domain, tree_of c.product_in.new.work.bank.now c.in_ok-domain.rest) c.product_in.new.work.ticks.now.left c.application_kind.result c.requires.argument.within (c.in_ok-domain.ensures.answer E G (tree_of c.args.work.now.bank.now c.args.function) e k refl).0.rest.within (c.in_ok-domain.ensures.answer E G (tree_of c.args.work.now.bank.now c.args.function) e k refl).1
+    (c.in_ok-check_in.ensures.answer E G (tree_of c.args.work.now.bank.now c.args.argument) (tree_of c.product_in.new.work.bank.now c.in_ok-domain.domain) (env_at c.args.work.now.bank.now c.product_in.new.work.bank.now c.in_ok-domain.ensures.grows c.args.env.now E c.requires.env e) (context_at c.args.work.now.bank.now c.product_in.new.work.bank.now c.in_ok-domain.ensures.grows c.args.context.now G c.requires.context k) (tree_at c.args.work.now.bank.now c.product_in.new.work.bank.now c.in_ok-domain.ensures.grows c.args.argument (tree_of c.args.work.now.bank.now c.args.argument) c.requires.argument.has refl) refl)
+    (c.application_kind.ensures.answer (tree_of c.args.work.now.bank.now c.args.argument) (tree_of c.product_in.new.work.bank.now c.in_ok-domain.rest) (c.in_ok-check_in.ensures.grows.tree c.args.argument (omega (arith, c.requires.argument.has, c.in_ok-domain.ensures.grows.nodes)) ∙ c.in_ok-domain.ensures.grows.tree c.args.argument c.requires.argument.has) (c.in_ok-check_in.ensures.grows.tree c.in_ok-domain.rest (c.in_ok-domain.ensures.answer E G (tree_of c.args.work.now.bank.now c.args.function) e k refl).0.rest.has))
 
 pub product_type-returns-in_err-domain-clause-answer : goal.product_type-returns-in_err-domain-clause-answer
-product_type-returns-in_err-domain-clause-answer t c =
-    product_domain (env_of c.args.bank.now c.args.env.now) (context_of c.args.bank.now c.args.hypotheses.now.items) (text_of c.args.bank.now c.args.binder) (tree_of c.args.bank.now c.args.kind) (tree_of c.args.bank.now c.args.rest)
-    c.sort_in.new.bank c.from_residual.result c.in_err-domain.field-0.0 c.from_residual.ensures.1 c.in_err-domain.ensures.answer
+product_type-returns-in_err-domain-clause-answer g t c E G e k =
+    prod_domain_stops E G (text_of c.args.work.now.bank.now c.args.binder) (tree_of c.args.work.now.bank.now c.args.kind) (tree_of c.args.work.now.bank.now c.args.rest) c.sort_in.new.work.bank.now c.args.work.now.ticks.now.left c.sort_in.new.work.ticks.now.left c.from_residual.result c.in_err-domain.field-0.0 c.from_residual.ensures.1 (c.in_err-domain.ensures.answer E G (tree_of c.args.work.now.bank.now c.args.kind) e k refl)
 
-pub product_type-type_under-requires : goal.product_type-type_under-requires
-product_type-type_under-requires t c =
-    let same_size : size (tree_of c.sort_in.new.bank c.args.rest) ≡ size (tree_of c.args.bank.now c.args.rest) = ap size (c.in_ok-domain.ensures.grows.tree c.args.rest c.requires.rest.has) in (
-      omega (arith, one-le-size (tree_of c.args.bank.now c.args.kind)),
-      (
-        omega (arith, c.requires.binder, c.in_ok-domain.ensures.grows.names),
-        (
-          IsPlainTerm-grown c.args.bank.now c.sort_in.new.bank c.in_ok-domain.ensures.grows 0 c.args.kind c.requires.kind,
-          (
-            IsPlainTerm-grown c.args.bank.now c.sort_in.new.bank c.in_ok-domain.ensures.grows 1 c.args.rest c.requires.rest,
-            (IsPlainEnv-grown c.args.bank.now c.sort_in.new.bank c.in_ok-domain.ensures.grows c.args.env.now c.requires.env, subst (IsPlainContext c.sort_in.new.bank) (sym c.in_ok-domain.ensures.kept) (IsPlainContext-grown c.args.bank.now c.sort_in.new.bank c.in_ok-domain.ensures.grows c.args.hypotheses.now.items c.requires.context)),
-          ),
-        ),
-      ),
+pub product_type-under-requires-clause-context : goal.product_type-under-requires-clause-context
+product_type-under-requires-clause-context g t c =
+    IsContext-grown c.args.work.now.bank.now c.sort_in.new.work.bank.now c.in_ok-domain.ensures.grows c.args.context.now c.requires.context
+
+pub product_type-sort_in-requires-2 : goal.product_type-sort_in-requires-2
+product_type-sort_in-requires-2 g t c κs within =
+    let same : size (tree_of c.under.new.bank c.in_ok-inside.inside.term) ≡ size (tree_of c.args.work.now.bank.now c.args.rest) = inside_size c.under.new.bank c.in_ok-inside.inside.term (fresh (context_of c.args.work.now.bank.now c.args.context.now) (text_of c.args.work.now.bank.now c.args.binder)) (tree_of c.args.work.now.bank.now c.args.rest) (size (tree_of c.args.work.now.bank.now c.args.rest)) (c.in_ok-inside.ensures.inside (context_of c.args.work.now.bank.now c.args.context.now) (text_of c.args.work.now.bank.now c.args.binder) (tree_of c.args.work.now.bank.now c.args.kind) (tree_of c.args.work.now.bank.now c.args.rest) (context_at c.args.work.now.bank.now c.sort_in.new.work.bank.now c.in_ok-domain.ensures.grows c.args.context.now (context_of c.args.work.now.bank.now c.args.context.now) c.requires.context refl) (text_at c.args.work.now.bank.now c.sort_in.new.work.bank.now c.in_ok-domain.ensures.grows c.args.binder (text_of c.args.work.now.bank.now c.args.binder) c.requires.binder refl) (tree_at c.args.work.now.bank.now c.sort_in.new.work.bank.now c.in_ok-domain.ensures.grows c.args.kind (tree_of c.args.work.now.bank.now c.args.kind) c.requires.kind.has refl) (tree_at c.args.work.now.bank.now c.sort_in.new.work.bank.now c.in_ok-domain.ensures.grows c.args.rest (tree_of c.args.work.now.bank.now c.args.rest) c.requires.rest.has refl)).term refl in (
+      omega (arith, one-le-size (tree_of c.args.work.now.bank.now c.args.kind)),
+      (within, (inside_scoped c.under.new.bank c.in_ok-inside.inside _ _ _ (c.in_ok-inside.ensures.inside (context_of c.args.work.now.bank.now c.args.context.now) (text_of c.args.work.now.bank.now c.args.binder) (tree_of c.args.work.now.bank.now c.args.kind) (tree_of c.args.work.now.bank.now c.args.rest) (context_at c.args.work.now.bank.now c.sort_in.new.work.bank.now c.in_ok-domain.ensures.grows c.args.context.now (context_of c.args.work.now.bank.now c.args.context.now) c.requires.context refl) (text_at c.args.work.now.bank.now c.sort_in.new.work.bank.now c.in_ok-domain.ensures.grows c.args.binder (text_of c.args.work.now.bank.now c.args.binder) c.requires.binder refl) (tree_at c.args.work.now.bank.now c.sort_in.new.work.bank.now c.in_ok-domain.ensures.grows c.args.kind (tree_of c.args.work.now.bank.now c.args.kind) c.requires.kind.has refl) (tree_at c.args.work.now.bank.now c.sort_in.new.work.bank.now c.in_ok-domain.ensures.grows c.args.rest (tree_of c.args.work.now.bank.now c.args.rest) c.requires.rest.has refl)), (IsEnv-grown c.args.work.now.bank.now c.under.new.bank (Grows-trans c.args.work.now.bank.now c.sort_in.new.work.bank.now c.under.new.bank c.in_ok-domain.ensures.grows c.in_ok-inside.ensures.grows) c.args.env.now c.requires.env, (c.in_ok-inside.ensures.inside (context_of c.args.work.now.bank.now c.args.context.now) (text_of c.args.work.now.bank.now c.args.binder) (tree_of c.args.work.now.bank.now c.args.kind) (tree_of c.args.work.now.bank.now c.args.rest) (context_at c.args.work.now.bank.now c.sort_in.new.work.bank.now c.in_ok-domain.ensures.grows c.args.context.now (context_of c.args.work.now.bank.now c.args.context.now) c.requires.context refl) (text_at c.args.work.now.bank.now c.sort_in.new.work.bank.now c.in_ok-domain.ensures.grows c.args.binder (text_of c.args.work.now.bank.now c.args.binder) c.requires.binder refl) (tree_at c.args.work.now.bank.now c.sort_in.new.work.bank.now c.in_ok-domain.ensures.grows c.args.kind (tree_of c.args.work.now.bank.now c.args.kind) c.requires.kind.has refl) (tree_at c.args.work.now.bank.now c.sort_in.new.work.bank.now c.in_ok-domain.ensures.grows c.args.rest (tree_of c.args.work.now.bank.now c.args.rest) c.requires.rest.has refl)).context))),
     )
 
 pub product_type-returns-in_err-last-clause-answer : goal.product_type-returns-in_err-last-clause-answer
-product_type-returns-in_err-last-clause-answer t c =
-    product_rest (env_of c.args.bank.now c.args.env.now) (context_of c.args.bank.now c.args.hypotheses.now.items) (text_of c.args.bank.now c.args.binder) (tree_of c.args.bank.now c.args.kind) (tree_of c.args.bank.now c.args.rest)
-    c.type_under.new.bank c.in_ok-domain.domain c.from_residual-in_err-last.result c.in_err-last.field-0.0 c.from_residual-in_err-last.ensures.1 c.in_ok-domain.ensures.answer
-    (moved c.args.bank.now c.sort_in.new.bank c.args.env.now c.args.hypotheses.now.items c.sort_in.new.hypotheses.items c.args.binder c.args.kind c.args.rest c.in_ok-domain.ensures.grows c.requires.env c.requires.context
-    c.in_ok-domain.ensures.kept c.requires.binder c.requires.kind.has c.requires.rest.has (TypesUnder c.type_under.new.bank (Err c.in_err-last.field-0.0)) c.in_err-last.ensures.answer)
-
-pub product_type-returns-in_err-last-2-clause-answer : goal.product_type-returns-in_err-last-2-clause-answer
-product_type-returns-in_err-last-2-clause-answer t c =
-    let under_it : TypesUnder c.type_under.new.bank (Ok (c.in_ok-last.field-0-0, c.in_ok-last.last)) (env_of c.args.bank.now c.args.env.now) (context_of c.args.bank.now c.args.hypotheses.now.items) (text_of c.args.bank.now c.args.binder) (tree_of c.args.bank.now c.args.kind) (tree_of c.args.bank.now c.args.rest) =
-    (moved c.args.bank.now c.sort_in.new.bank c.args.env.now c.args.hypotheses.now.items c.sort_in.new.hypotheses.items c.args.binder c.args.kind c.args.rest c.in_ok-domain.ensures.grows c.requires.env c.requires.context
-    c.in_ok-domain.ensures.kept c.requires.binder c.requires.kind.has c.requires.rest.has (TypesUnder c.type_under.new.bank (Ok (c.in_ok-last.field-0-0, c.in_ok-last.last))) c.in_ok-last.ensures.answer) in
-    product_last (env_of c.args.bank.now c.args.env.now) (context_of c.args.bank.now c.args.hypotheses.now.items) (text_of c.args.bank.now c.args.binder) (tree_of c.args.bank.now c.args.kind) (tree_of c.args.bank.now c.args.rest)
-    c.type_under.new.bank c.in_ok-domain.domain c.from_residual-in_err-last-2.result c.in_err-last-2.field-0.0 c.in_ok-last.field-0-0 c.in_ok-last.last c.from_residual-in_err-last-2.ensures.1
-    (still c.args.bank.now c.args.env.now c.args.hypotheses.now.items c.requires.env c.requires.context) c.in_ok-domain.ensures.answer under_it c.in_err-last-2.ensures
+product_type-returns-in_err-last-clause-answer g t c E G e k =
+    prod_rest_stops E G (text_of c.args.work.now.bank.now c.args.binder) (tree_of c.args.work.now.bank.now c.args.kind) (tree_of c.args.work.now.bank.now c.args.rest) c.sort_in-2.new.work.bank.now c.args.work.now.ticks.now.left c.sort_in-2.new.work.ticks.now.left c.in_ok-domain.domain c.sort_in.new.work.ticks.now.left c.from_residual-in_err-last.result c.in_err-last.field-0.0 c.from_residual-in_err-last.ensures.1 (c.in_ok-domain.ensures.answer E G (tree_of c.args.work.now.bank.now c.args.kind) e k refl)
+    (c.in_err-last.ensures.answer E _ _ (env_at c.args.work.now.bank.now c.under.new.bank (Grows-trans c.args.work.now.bank.now c.sort_in.new.work.bank.now c.under.new.bank c.in_ok-domain.ensures.grows c.in_ok-inside.ensures.grows) c.args.env.now E c.requires.env e) (c.in_ok-inside.ensures.inside G (text_of c.args.work.now.bank.now c.args.binder) (tree_of c.args.work.now.bank.now c.args.kind) (tree_of c.args.work.now.bank.now c.args.rest) (context_at c.args.work.now.bank.now c.sort_in.new.work.bank.now c.in_ok-domain.ensures.grows c.args.context.now G c.requires.context k) (text_at c.args.work.now.bank.now c.sort_in.new.work.bank.now c.in_ok-domain.ensures.grows c.args.binder (text_of c.args.work.now.bank.now c.args.binder) c.requires.binder refl) (tree_at c.args.work.now.bank.now c.sort_in.new.work.bank.now c.in_ok-domain.ensures.grows c.args.kind (tree_of c.args.work.now.bank.now c.args.kind) c.requires.kind.has refl) (tree_at c.args.work.now.bank.now c.sort_in.new.work.bank.now c.in_ok-domain.ensures.grows c.args.rest (tree_of c.args.work.now.bank.now c.args.rest) c.requires.rest.has refl)).is (c.in_ok-inside.ensures.inside G (text_of c.args.work.now.bank.now c.args.binder) (tree_of c.args.work.now.bank.now c.args.kind) (tree_of c.args.work.now.bank.now c.args.rest) (context_at c.args.work.now.bank.now c.sort_in.new.work.bank.now c.in_ok-domain.ensures.grows c.args.context.now G c.requires.context k) (text_at c.args.work.now.bank.now c.sort_in.new.work.bank.now c.in_ok-domain.ensures.grows c.args.binder (text_of c.args.work.now.bank.now c.args.binder) c.requires.binder refl) (tree_at c.args.work.now.bank.now c.sort_in.new.work.bank.now c.in_ok-domain.ensures.grows c.args.kind (tree_of c.args.work.now.bank.now c.args.kind) c.requires.kind.has refl) (tree_at c.args.work.now.bank.now c.sort_in.new.work.bank.now c.in_ok-domain.ensures.grows c.args.rest (tree_of c.args.work.now.bank.now c.args.rest) c.requires.rest.has refl)).term.is)
 
 pub product_type-returns-clause-answer : goal.product_type-returns-clause-answer
-product_type-returns-clause-answer t c =
-    let under_it : TypesUnder c.type_under.new.bank (Ok (c.in_ok-last.field-0-0, c.in_ok-last.last)) (env_of c.args.bank.now c.args.env.now) (context_of c.args.bank.now c.args.hypotheses.now.items) (text_of c.args.bank.now c.args.binder) (tree_of c.args.bank.now c.args.kind) (tree_of c.args.bank.now c.args.rest) =
-    (moved c.args.bank.now c.sort_in.new.bank c.args.env.now c.args.hypotheses.now.items c.sort_in.new.hypotheses.items c.args.binder c.args.kind c.args.rest c.in_ok-domain.ensures.grows c.requires.env c.requires.context
-    c.in_ok-domain.ensures.kept c.requires.binder c.requires.kind.has c.requires.rest.has (TypesUnder c.type_under.new.bank (Ok (c.in_ok-last.field-0-0, c.in_ok-last.last))) c.in_ok-last.ensures.answer) in
-    product_made (env_of c.args.bank.now c.args.env.now) (context_of c.args.bank.now c.args.hypotheses.now.items) (text_of c.args.bank.now c.args.binder) (tree_of c.args.bank.now c.args.kind) (tree_of c.args.bank.now c.args.rest)
-    c.type_under.new.bank c.make.new.self c.in_ok-domain.domain c.in_ok-last-2.last c.in_ok-last.field-0-0 c.in_ok-last.last c.in_ok-make.field-0
-    (still c.args.bank.now c.args.env.now c.args.hypotheses.now.items c.requires.env c.requires.context) c.in_ok-domain.ensures.answer under_it c.in_ok-last-2.ensures
-    (sort_made c.make.new.self c.in_ok-make.field-0 (product_sort c.in_ok-domain.domain c.in_ok-last-2.last) c.product_sort.result c.product_sort.ensures c.in_ok-make.ensures.made)
+product_type-returns-clause-answer g t c E G e k =
+    prod_ends E G (text_of c.args.work.now.bank.now c.args.binder) (tree_of c.args.work.now.bank.now c.args.kind) (tree_of c.args.work.now.bank.now c.args.rest) c.make.new.self c.args.work.now.ticks.now.left c.sort_in-2.new.work.ticks.now.left c.in_ok-domain.domain c.in_ok-last.last c.product_sort.result c.sort_in.new.work.ticks.now.left c.in_ok-make.field-0 (c.in_ok-domain.ensures.answer E G (tree_of c.args.work.now.bank.now c.args.kind) e k refl)
+    (c.in_ok-last.ensures.answer E _ _ (env_at c.args.work.now.bank.now c.under.new.bank (Grows-trans c.args.work.now.bank.now c.sort_in.new.work.bank.now c.under.new.bank c.in_ok-domain.ensures.grows c.in_ok-inside.ensures.grows) c.args.env.now E c.requires.env e) (c.in_ok-inside.ensures.inside G (text_of c.args.work.now.bank.now c.args.binder) (tree_of c.args.work.now.bank.now c.args.kind) (tree_of c.args.work.now.bank.now c.args.rest) (context_at c.args.work.now.bank.now c.sort_in.new.work.bank.now c.in_ok-domain.ensures.grows c.args.context.now G c.requires.context k) (text_at c.args.work.now.bank.now c.sort_in.new.work.bank.now c.in_ok-domain.ensures.grows c.args.binder (text_of c.args.work.now.bank.now c.args.binder) c.requires.binder refl) (tree_at c.args.work.now.bank.now c.sort_in.new.work.bank.now c.in_ok-domain.ensures.grows c.args.kind (tree_of c.args.work.now.bank.now c.args.kind) c.requires.kind.has refl) (tree_at c.args.work.now.bank.now c.sort_in.new.work.bank.now c.in_ok-domain.ensures.grows c.args.rest (tree_of c.args.work.now.bank.now c.args.rest) c.requires.rest.has refl)).is (c.in_ok-inside.ensures.inside G (text_of c.args.work.now.bank.now c.args.binder) (tree_of c.args.work.now.bank.now c.args.kind) (tree_of c.args.work.now.bank.now c.args.rest) (context_at c.args.work.now.bank.now c.sort_in.new.work.bank.now c.in_ok-domain.ensures.grows c.args.context.now G c.requires.context k) (text_at c.args.work.now.bank.now c.sort_in.new.work.bank.now c.in_ok-domain.ensures.grows c.args.binder (text_of c.args.work.now.bank.now c.args.binder) c.requires.binder refl) (tree_at c.args.work.now.bank.now c.sort_in.new.work.bank.now c.in_ok-domain.ensures.grows c.args.kind (tree_of c.args.work.now.bank.now c.args.kind) c.requires.kind.has refl) (tree_at c.args.work.now.bank.now c.sort_in.new.work.bank.now c.in_ok-domain.ensures.grows c.args.rest (tree_of c.args.work.now.bank.now c.args.rest) c.requires.rest.has refl)).term.is) c.product_sort.ensures c.in_ok-make.ensures.made
+
+pub function_type-returns-in_err-sort_in-clause-answer : goal.function_type-returns-in_err-sort_in-clause-answer
+function_type-returns-in_err-sort_in-clause-answer g t c E G e k =
+    lam_domain_stops E G (text_of c.args.work.now.bank.now c.args.binder) (tree_of c.args.work.now.bank.now c.args.kind) (tree_of c.args.work.now.bank.now c.args.rest) c.sort_in.new.work.bank.now c.args.work.now.ticks.now.left c.sort_in.new.work.ticks.now.left c.from_residual.result c.in_err-sort_in.field-0.0 c.from_residual.ensures.1 (c.in_err-sort_in.ensures.answer E G (tree_of c.args.work.now.bank.now c.args.kind) e k refl)
+
+pub function_type-under-requires-clause-context : goal.function_type-under-requires-clause-context
+function_type-under-requires-clause-context g t c =
+    IsContext-grown c.args.work.now.bank.now c.sort_in.new.work.bank.now c.in_ok-sort_in.ensures.grows c.args.context.now c.requires.context
+
+pub function_type-type_of-requires : goal.function_type-type_of-requires
+function_type-type_of-requires g t c κs within =
+    let same : size (tree_of c.under.new.bank c.in_ok-inside.inside.term) ≡ size (tree_of c.args.work.now.bank.now c.args.rest) = inside_size c.under.new.bank c.in_ok-inside.inside.term (fresh (context_of c.args.work.now.bank.now c.args.context.now) (text_of c.args.work.now.bank.now c.args.binder)) (tree_of c.args.work.now.bank.now c.args.rest) (size (tree_of c.args.work.now.bank.now c.args.rest)) (c.in_ok-inside.ensures.inside (context_of c.args.work.now.bank.now c.args.context.now) (text_of c.args.work.now.bank.now c.args.binder) (tree_of c.args.work.now.bank.now c.args.kind) (tree_of c.args.work.now.bank.now c.args.rest) (context_at c.args.work.now.bank.now c.sort_in.new.work.bank.now c.in_ok-sort_in.ensures.grows c.args.context.now (context_of c.args.work.now.bank.now c.args.context.now) c.requires.context refl) (text_at c.args.work.now.bank.now c.sort_in.new.work.bank.now c.in_ok-sort_in.ensures.grows c.args.binder (text_of c.args.work.now.bank.now c.args.binder) c.requires.binder refl) (tree_at c.args.work.now.bank.now c.sort_in.new.work.bank.now c.in_ok-sort_in.ensures.grows c.args.kind (tree_of c.args.work.now.bank.now c.args.kind) c.requires.kind.has refl) (tree_at c.args.work.now.bank.now c.sort_in.new.work.bank.now c.in_ok-sort_in.ensures.grows c.args.rest (tree_of c.args.work.now.bank.now c.args.rest) c.requires.rest.has refl)).term refl in (
+      omega (arith, one-le-size (tree_of c.args.work.now.bank.now c.args.kind)),
+      (within, (inside_scoped c.under.new.bank c.in_ok-inside.inside _ _ _ (c.in_ok-inside.ensures.inside (context_of c.args.work.now.bank.now c.args.context.now) (text_of c.args.work.now.bank.now c.args.binder) (tree_of c.args.work.now.bank.now c.args.kind) (tree_of c.args.work.now.bank.now c.args.rest) (context_at c.args.work.now.bank.now c.sort_in.new.work.bank.now c.in_ok-sort_in.ensures.grows c.args.context.now (context_of c.args.work.now.bank.now c.args.context.now) c.requires.context refl) (text_at c.args.work.now.bank.now c.sort_in.new.work.bank.now c.in_ok-sort_in.ensures.grows c.args.binder (text_of c.args.work.now.bank.now c.args.binder) c.requires.binder refl) (tree_at c.args.work.now.bank.now c.sort_in.new.work.bank.now c.in_ok-sort_in.ensures.grows c.args.kind (tree_of c.args.work.now.bank.now c.args.kind) c.requires.kind.has refl) (tree_at c.args.work.now.bank.now c.sort_in.new.work.bank.now c.in_ok-sort_in.ensures.grows c.args.rest (tree_of c.args.work.now.bank.now c.args.rest) c.requires.rest.has refl)), (IsEnv-grown c.args.work.now.bank.now c.under.new.bank (Grows-trans c.args.work.now.bank.now c.sort_in.new.work.bank.now c.under.new.bank c.in_ok-sort_in.ensures.grows c.in_ok-inside.ensures.grows) c.args.env.now c.requires.env, (c.in_ok-inside.ensures.inside (context_of c.args.work.now.bank.now c.args.context.now) (text_of c.args.work.now.bank.now c.args.binder) (tree_of c.args.work.now.bank.now c.args.kind) (tree_of c.args.work.now.bank.now c.args.rest) (context_at c.args.work.now.bank.now c.sort_in.new.work.bank.now c.in_ok-sort_in.ensures.grows c.args.context.now (context_of c.args.work.now.bank.now c.args.context.now) c.requires.context refl) (text_at c.args.work.now.bank.now c.sort_in.new.work.bank.now c.in_ok-sort_in.ensures.grows c.args.binder (text_of c.args.work.now.bank.now c.args.binder) c.requires.binder refl) (tree_at c.args.work.now.bank.now c.sort_in.new.work.bank.now c.in_ok-sort_in.ensures.grows c.args.kind (tree_of c.args.work.now.bank.now c.args.kind) c.requires.kind.has refl) (tree_at c.args.work.now.bank.now c.sort_in.new.work.bank.now c.in_ok-sort_in.ensures.grows c.args.rest (tree_of c.args.work.now.bank.now c.args.rest) c.requires.rest.has refl)).context))),
+    )
+
+pub function_type-returns-in_err-body-clause-answer : goal.function_type-returns-in_err-body-clause-answer
+function_type-returns-in_err-body-clause-answer g t c E G e k =
+    lam_body_stops E G (text_of c.args.work.now.bank.now c.args.binder) (tree_of c.args.work.now.bank.now c.args.kind) (tree_of c.args.work.now.bank.now c.args.rest) c.type_of.new.work.bank.now c.args.work.now.ticks.now.left c.type_of.new.work.ticks.now.left c.in_ok-sort_in.field-0 c.sort_in.new.work.ticks.now.left c.from_residual-in_err-body.result c.in_err-body.field-0.0 c.from_residual-in_err-body.ensures.1 (c.in_ok-sort_in.ensures.answer E G (tree_of c.args.work.now.bank.now c.args.kind) e k refl)
+    (c.in_err-body.ensures.answer E _ _ (env_at c.args.work.now.bank.now c.under.new.bank (Grows-trans c.args.work.now.bank.now c.sort_in.new.work.bank.now c.under.new.bank c.in_ok-sort_in.ensures.grows c.in_ok-inside.ensures.grows) c.args.env.now E c.requires.env e) (c.in_ok-inside.ensures.inside G (text_of c.args.work.now.bank.now c.args.binder) (tree_of c.args.work.now.bank.now c.args.kind) (tree_of c.args.work.now.bank.now c.args.rest) (context_at c.args.work.now.bank.now c.sort_in.new.work.bank.now c.in_ok-sort_in.ensures.grows c.args.context.now G c.requires.context k) (text_at c.args.work.now.bank.now c.sort_in.new.work.bank.now c.in_ok-sort_in.ensures.grows c.args.binder (text_of c.args.work.now.bank.now c.args.binder) c.requires.binder refl) (tree_at c.args.work.now.bank.now c.sort_in.new.work.bank.now c.in_ok-sort_in.ensures.grows c.args.kind (tree_of c.args.work.now.bank.now c.args.kind) c.requires.kind.has refl) (tree_at c.args.work.now.bank.now c.sort_in.new.work.bank.now c.in_ok-sort_in.ensures.grows c.args.rest (tree_of c.args.work.now.bank.now c.args.rest) c.requires.rest.has refl)).is (c.in_ok-inside.ensures.inside G (text_of c.args.work.now.bank.now c.args.binder) (tree_of c.args.work.now.bank.now c.args.kind) (tree_of c.args.work.now.bank.now c.args.rest) (context_at c.args.work.now.bank.now c.sort_in.new.work.bank.now c.in_ok-sort_in.ensures.grows c.args.context.now G c.requires.context k) (text_at c.args.work.now.bank.now c.sort_in.new.work.bank.now c.in_ok-sort_in.ensures.grows c.args.binder (text_of c.args.work.now.bank.now c.args.binder) c.requires.binder refl) (tree_at c.args.work.now.bank.now c.sort_in.new.work.bank.now c.in_ok-sort_in.ensures.grows c.args.kind (tree_of c.args.work.now.bank.now c.args.kind) c.requires.kind.has refl) (tree_at c.args.work.now.bank.now c.sort_in.new.work.bank.now c.in_ok-sort_in.ensures.grows c.args.rest (tree_of c.args.work.now.bank.now c.args.rest) c.requires.rest.has refl)).term.is)
+
+pub function_type-function_kind-requires-clause-name : goal.function_type-function_kind-requires-clause-name
+function_type-function_kind-requires-clause-name g t c =
+    omega (arith, (c.in_ok-inside.ensures.inside (context_of c.args.work.now.bank.now c.args.context.now) (text_of c.args.work.now.bank.now c.args.binder) (tree_of c.args.work.now.bank.now c.args.kind) (tree_of c.args.work.now.bank.now c.args.rest) (context_at c.args.work.now.bank.now c.sort_in.new.work.bank.now c.in_ok-sort_in.ensures.grows c.args.context.now (context_of c.args.work.now.bank.now c.args.context.now) c.requires.context refl) (text_at c.args.work.now.bank.now c.sort_in.new.work.bank.now c.in_ok-sort_in.ensures.grows c.args.binder (text_of c.args.work.now.bank.now c.args.binder) c.requires.binder refl) (tree_at c.args.work.now.bank.now c.sort_in.new.work.bank.now c.in_ok-sort_in.ensures.grows c.args.kind (tree_of c.args.work.now.bank.now c.args.kind) c.requires.kind.has refl) (tree_at c.args.work.now.bank.now c.sort_in.new.work.bank.now c.in_ok-sort_in.ensures.grows c.args.rest (tree_of c.args.work.now.bank.now c.args.rest) c.requires.rest.has refl)).name.has, c.in_ok-body.ensures.grows.names)
+
+pub function_type-returns-clause-answer : goal.function_type-returns-clause-answer
+function_type-returns-clause-answer g t c E G e k =
+    lam_ends E G (text_of c.args.work.now.bank.now c.args.binder) (tree_of c.args.work.now.bank.now c.args.kind) (tree_of c.args.work.now.bank.now c.args.rest) c.function_kind.new.bank c.args.work.now.ticks.now.left c.type_of.new.work.ticks.now.left c.in_ok-sort_in.field-0 (tree_of c.type_of.new.work.bank.now c.in_ok-body.body) c.sort_in.new.work.ticks.now.left c.function_kind.result c.requires.kind.within (c.in_ok-body.ensures.answer E _ _ (env_at c.args.work.now.bank.now c.under.new.bank (Grows-trans c.args.work.now.bank.now c.sort_in.new.work.bank.now c.under.new.bank c.in_ok-sort_in.ensures.grows c.in_ok-inside.ensures.grows) c.args.env.now E c.requires.env e) (c.in_ok-inside.ensures.inside G (text_of c.args.work.now.bank.now c.args.binder) (tree_of c.args.work.now.bank.now c.args.kind) (tree_of c.args.work.now.bank.now c.args.rest) (context_at c.args.work.now.bank.now c.sort_in.new.work.bank.now c.in_ok-sort_in.ensures.grows c.args.context.now G c.requires.context k) (text_at c.args.work.now.bank.now c.sort_in.new.work.bank.now c.in_ok-sort_in.ensures.grows c.args.binder (text_of c.args.work.now.bank.now c.args.binder) c.requires.binder refl) (tree_at c.args.work.now.bank.now c.sort_in.new.work.bank.now c.in_ok-sort_in.ensures.grows c.args.kind (tree_of c.args.work.now.bank.now c.args.kind) c.requires.kind.has refl) (tree_at c.args.work.now.bank.now c.sort_in.new.work.bank.now c.in_ok-sort_in.ensures.grows c.args.rest (tree_of c.args.work.now.bank.now c.args.rest) c.requires.rest.has refl)).is (c.in_ok-inside.ensures.inside G (text_of c.args.work.now.bank.now c.args.binder) (tree_of c.args.work.now.bank.now c.args.kind) (tree_of c.args.work.now.bank.now c.args.rest) (context_at c.args.work.now.bank.now c.sort_in.new.work.bank.now c.in_ok-sort_in.ensures.grows c.args.context.now G c.requires.context k) (text_at c.args.work.now.bank.now c.sort_in.new.work.bank.now c.in_ok-sort_in.ensures.grows c.args.binder (text_of c.args.work.now.bank.now c.args.binder) c.requires.binder refl) (tree_at c.args.work.now.bank.now c.sort_in.new.work.bank.now c.in_ok-sort_in.ensures.grows c.args.kind (tree_of c.args.work.now.bank.now c.args.kind) c.requires.kind.has refl) (tree_at c.args.work.now.bank.now c.sort_in.new.work.bank.now c.in_ok-sort_in.ensures.grows c.args.rest (tree_of c.args.work.now.bank.now c.args.rest) c.requires.rest.has refl)).term.is).0.within (c.in_ok-sort_in.ensures.answer E G (tree_of c.args.work.now.bank.now c.args.kind) e k refl)
+    (c.in_ok-body.ensures.answer E _ _ (env_at c.args.work.now.bank.now c.under.new.bank (Grows-trans c.args.work.now.bank.now c.sort_in.new.work.bank.now c.under.new.bank c.in_ok-sort_in.ensures.grows c.in_ok-inside.ensures.grows) c.args.env.now E c.requires.env e) (c.in_ok-inside.ensures.inside G (text_of c.args.work.now.bank.now c.args.binder) (tree_of c.args.work.now.bank.now c.args.kind) (tree_of c.args.work.now.bank.now c.args.rest) (context_at c.args.work.now.bank.now c.sort_in.new.work.bank.now c.in_ok-sort_in.ensures.grows c.args.context.now G c.requires.context k) (text_at c.args.work.now.bank.now c.sort_in.new.work.bank.now c.in_ok-sort_in.ensures.grows c.args.binder (text_of c.args.work.now.bank.now c.args.binder) c.requires.binder refl) (tree_at c.args.work.now.bank.now c.sort_in.new.work.bank.now c.in_ok-sort_in.ensures.grows c.args.kind (tree_of c.args.work.now.bank.now c.args.kind) c.requires.kind.has refl) (tree_at c.args.work.now.bank.now c.sort_in.new.work.bank.now c.in_ok-sort_in.ensures.grows c.args.rest (tree_of c.args.work.now.bank.now c.args.rest) c.requires.rest.has refl)).is (c.in_ok-inside.ensures.inside G (text_of c.args.work.now.bank.now c.args.binder) (tree_of c.args.work.now.bank.now c.args.kind) (tree_of c.args.work.now.bank.now c.args.rest) (context_at c.args.work.now.bank.now c.sort_in.new.work.bank.now c.in_ok-sort_in.ensures.grows c.args.context.now G c.requires.context k) (text_at c.args.work.now.bank.now c.sort_in.new.work.bank.now c.in_ok-sort_in.ensures.grows c.args.binder (text_of c.args.work.now.bank.now c.args.binder) c.requires.binder refl) (tree_at c.args.work.now.bank.now c.sort_in.new.work.bank.now c.in_ok-sort_in.ensures.grows c.args.kind (tree_of c.args.work.now.bank.now c.args.kind) c.requires.kind.has refl) (tree_at c.args.work.now.bank.now c.sort_in.new.work.bank.now c.in_ok-sort_in.ensures.grows c.args.rest (tree_of c.args.work.now.bank.now c.args.rest) c.requires.rest.has refl)).term.is).1
+    (c.function_kind.ensures.answer (text_of c.args.work.now.bank.now c.args.binder) (fresh G (text_of c.args.work.now.bank.now c.args.binder)) (tree_of c.args.work.now.bank.now c.args.kind) (tree_of c.type_of.new.work.bank.now c.in_ok-body.body) (text_at c.args.work.now.bank.now c.type_of.new.work.bank.now (Grows-trans c.args.work.now.bank.now c.under.new.bank c.type_of.new.work.bank.now (Grows-trans c.args.work.now.bank.now c.sort_in.new.work.bank.now c.under.new.bank c.in_ok-sort_in.ensures.grows c.in_ok-inside.ensures.grows) c.in_ok-body.ensures.grows) c.args.binder (text_of c.args.work.now.bank.now c.args.binder) c.requires.binder refl) (c.in_ok-body.ensures.grows.text c.in_ok-inside.inside.name (c.in_ok-inside.ensures.inside G (text_of c.args.work.now.bank.now c.args.binder) (tree_of c.args.work.now.bank.now c.args.kind) (tree_of c.args.work.now.bank.now c.args.rest) (context_at c.args.work.now.bank.now c.sort_in.new.work.bank.now c.in_ok-sort_in.ensures.grows c.args.context.now G c.requires.context k) (text_at c.args.work.now.bank.now c.sort_in.new.work.bank.now c.in_ok-sort_in.ensures.grows c.args.binder (text_of c.args.work.now.bank.now c.args.binder) c.requires.binder refl) (tree_at c.args.work.now.bank.now c.sort_in.new.work.bank.now c.in_ok-sort_in.ensures.grows c.args.kind (tree_of c.args.work.now.bank.now c.args.kind) c.requires.kind.has refl) (tree_at c.args.work.now.bank.now c.sort_in.new.work.bank.now c.in_ok-sort_in.ensures.grows c.args.rest (tree_of c.args.work.now.bank.now c.args.rest) c.requires.rest.has refl)).name.has ∙ (c.in_ok-inside.ensures.inside G (text_of c.args.work.now.bank.now c.args.binder) (tree_of c.args.work.now.bank.now c.args.kind) (tree_of c.args.work.now.bank.now c.args.rest) (context_at c.args.work.now.bank.now c.sort_in.new.work.bank.now c.in_ok-sort_in.ensures.grows c.args.context.now G c.requires.context k) (text_at c.args.work.now.bank.now c.sort_in.new.work.bank.now c.in_ok-sort_in.ensures.grows c.args.binder (text_of c.args.work.now.bank.now c.args.binder) c.requires.binder refl) (tree_at c.args.work.now.bank.now c.sort_in.new.work.bank.now c.in_ok-sort_in.ensures.grows c.args.kind (tree_of c.args.work.now.bank.now c.args.kind) c.requires.kind.has refl) (tree_at c.args.work.now.bank.now c.sort_in.new.work.bank.now c.in_ok-sort_in.ensures.grows c.args.rest (tree_of c.args.work.now.bank.now c.args.rest) c.requires.rest.has refl)).name.is) (tree_at c.args.work.now.bank.now c.type_of.new.work.bank.now (Grows-trans c.args.work.now.bank.now c.under.new.bank c.type_of.new.work.bank.now (Grows-trans c.args.work.now.bank.now c.sort_in.new.work.bank.now c.under.new.bank c.in_ok-sort_in.ensures.grows c.in_ok-inside.ensures.grows) c.in_ok-body.ensures.grows) c.args.kind (tree_of c.args.work.now.bank.now c.args.kind) c.requires.kind.has refl) refl)
+
+pub definition_type-returns-in_err-sort_in-clause-answer : goal.definition_type-returns-in_err-sort_in-clause-answer
+definition_type-returns-in_err-sort_in-clause-answer g t c E G e k =
+    let_domain_stops E G (text_of c.args.work.now.bank.now c.args.binder) (tree_of c.args.work.now.bank.now c.args.value) (tree_of c.args.work.now.bank.now c.args.kind) (tree_of c.args.work.now.bank.now c.args.rest) c.sort_in.new.work.bank.now c.args.work.now.ticks.now.left c.sort_in.new.work.ticks.now.left c.from_residual.result c.in_err-sort_in.field-0.0 c.from_residual.ensures.1 (c.in_err-sort_in.ensures.answer E G (tree_of c.args.work.now.bank.now c.args.kind) e k refl)
+
+pub definition_type-check_in-requires : goal.definition_type-check_in-requires
+definition_type-check_in-requires g t c κs within =
+    let same : size (tree_of c.sort_in.new.work.bank.now c.args.value) ≡ size (tree_of c.args.work.now.bank.now c.args.value) = ap size (c.in_ok-sort_in.ensures.grows.tree c.args.value c.requires.value.has) in (
+      omega (arith, one-le-size (tree_of c.args.work.now.bank.now c.args.kind), one-le-size (tree_of c.args.work.now.bank.now c.args.rest)),
+      (within, (IsScoped-grown c.args.work.now.bank.now c.sort_in.new.work.bank.now c.in_ok-sort_in.ensures.grows 0 c.args.value c.requires.value, (IsScoped-grown c.args.work.now.bank.now c.sort_in.new.work.bank.now c.in_ok-sort_in.ensures.grows 0 c.args.kind c.requires.kind, (IsEnv-grown c.args.work.now.bank.now c.sort_in.new.work.bank.now c.in_ok-sort_in.ensures.grows c.args.env.now c.requires.env, IsContext-grown c.args.work.now.bank.now c.sort_in.new.work.bank.now c.in_ok-sort_in.ensures.grows c.args.context.now c.requires.context)))),
+    )
+
+pub definition_type-returns-in_err-check_in-clause-answer : goal.definition_type-returns-in_err-check_in-clause-answer
+definition_type-returns-in_err-check_in-clause-answer g t c E G e k =
+    let_value_stops E G (text_of c.args.work.now.bank.now c.args.binder) (tree_of c.args.work.now.bank.now c.args.value) (tree_of c.args.work.now.bank.now c.args.kind) (tree_of c.args.work.now.bank.now c.args.rest) c.check_in.new.work.bank.now c.args.work.now.ticks.now.left c.check_in.new.work.ticks.now.left c.in_ok-sort_in.field-0 c.sort_in.new.work.ticks.now.left c.from_residual-in_err-check_in.result c.in_err-check_in.field-0.0 c.from_residual-in_err-check_in.ensures.1 (c.in_ok-sort_in.ensures.answer E G (tree_of c.args.work.now.bank.now c.args.kind) e k refl)
+    (c.in_err-check_in.ensures.answer E G (tree_of c.args.work.now.bank.now c.args.value) (tree_of c.args.work.now.bank.now c.args.kind) (env_at c.args.work.now.bank.now c.sort_in.new.work.bank.now c.in_ok-sort_in.ensures.grows c.args.env.now E c.requires.env e) (context_at c.args.work.now.bank.now c.sort_in.new.work.bank.now c.in_ok-sort_in.ensures.grows c.args.context.now G c.requires.context k) (tree_at c.args.work.now.bank.now c.sort_in.new.work.bank.now c.in_ok-sort_in.ensures.grows c.args.value (tree_of c.args.work.now.bank.now c.args.value) c.requires.value.has refl) (tree_at c.args.work.now.bank.now c.sort_in.new.work.bank.now c.in_ok-sort_in.ensures.grows c.args.kind (tree_of c.args.work.now.bank.now c.args.kind) c.requires.kind.has refl))
+
+pub definition_type-under-requires-clause-context : goal.definition_type-under-requires-clause-context
+definition_type-under-requires-clause-context g t c =
+    IsContext-grown c.args.work.now.bank.now c.check_in.new.work.bank.now (Grows-trans c.args.work.now.bank.now c.sort_in.new.work.bank.now c.check_in.new.work.bank.now c.in_ok-sort_in.ensures.grows c.in_ok-check_in.ensures.grows) c.args.context.now c.requires.context
+
+pub definition_type-type_of-requires : goal.definition_type-type_of-requires
+definition_type-type_of-requires g t c κs within =
+    let same : size (tree_of c.under.new.bank c.in_ok-inside.inside.term) ≡ size (tree_of c.args.work.now.bank.now c.args.rest) = inside_size c.under.new.bank c.in_ok-inside.inside.term (fresh (context_of c.args.work.now.bank.now c.args.context.now) (text_of c.args.work.now.bank.now c.args.binder)) (tree_of c.args.work.now.bank.now c.args.rest) (size (tree_of c.args.work.now.bank.now c.args.rest)) (let_inside c.under.new.bank c.in_ok-inside.inside (context_of c.args.work.now.bank.now c.args.context.now) (text_of c.args.work.now.bank.now c.args.binder) (tree_of c.args.work.now.bank.now c.args.kind) (tree_of c.args.work.now.bank.now c.args.rest) (tree_of c.check_in.new.work.bank.now c.args.value) (tree_of c.args.work.now.bank.now c.args.value) (tree_at c.args.work.now.bank.now c.check_in.new.work.bank.now (Grows-trans c.args.work.now.bank.now c.sort_in.new.work.bank.now c.check_in.new.work.bank.now c.in_ok-sort_in.ensures.grows c.in_ok-check_in.ensures.grows) c.args.value (tree_of c.args.work.now.bank.now c.args.value) c.requires.value.has refl) (c.in_ok-inside.ensures.inside (context_of c.args.work.now.bank.now c.args.context.now) (text_of c.args.work.now.bank.now c.args.binder) (tree_of c.args.work.now.bank.now c.args.kind) (tree_of c.args.work.now.bank.now c.args.rest) (context_at c.args.work.now.bank.now c.check_in.new.work.bank.now (Grows-trans c.args.work.now.bank.now c.sort_in.new.work.bank.now c.check_in.new.work.bank.now c.in_ok-sort_in.ensures.grows c.in_ok-check_in.ensures.grows) c.args.context.now (context_of c.args.work.now.bank.now c.args.context.now) c.requires.context refl) (text_at c.args.work.now.bank.now c.check_in.new.work.bank.now (Grows-trans c.args.work.now.bank.now c.sort_in.new.work.bank.now c.check_in.new.work.bank.now c.in_ok-sort_in.ensures.grows c.in_ok-check_in.ensures.grows) c.args.binder (text_of c.args.work.now.bank.now c.args.binder) c.requires.binder refl) (tree_at c.args.work.now.bank.now c.check_in.new.work.bank.now (Grows-trans c.args.work.now.bank.now c.sort_in.new.work.bank.now c.check_in.new.work.bank.now c.in_ok-sort_in.ensures.grows c.in_ok-check_in.ensures.grows) c.args.kind (tree_of c.args.work.now.bank.now c.args.kind) c.requires.kind.has refl) (tree_at c.args.work.now.bank.now c.check_in.new.work.bank.now (Grows-trans c.args.work.now.bank.now c.sort_in.new.work.bank.now c.check_in.new.work.bank.now c.in_ok-sort_in.ensures.grows c.in_ok-check_in.ensures.grows) c.args.rest (tree_of c.args.work.now.bank.now c.args.rest) c.requires.rest.has refl))).term refl in (
+      omega (arith, one-le-size (tree_of c.args.work.now.bank.now c.args.kind), one-le-size (tree_of c.args.work.now.bank.now c.args.value)),
+      (within, (inside_scoped c.under.new.bank c.in_ok-inside.inside _ _ _ (let_inside c.under.new.bank c.in_ok-inside.inside (context_of c.args.work.now.bank.now c.args.context.now) (text_of c.args.work.now.bank.now c.args.binder) (tree_of c.args.work.now.bank.now c.args.kind) (tree_of c.args.work.now.bank.now c.args.rest) (tree_of c.check_in.new.work.bank.now c.args.value) (tree_of c.args.work.now.bank.now c.args.value) (tree_at c.args.work.now.bank.now c.check_in.new.work.bank.now (Grows-trans c.args.work.now.bank.now c.sort_in.new.work.bank.now c.check_in.new.work.bank.now c.in_ok-sort_in.ensures.grows c.in_ok-check_in.ensures.grows) c.args.value (tree_of c.args.work.now.bank.now c.args.value) c.requires.value.has refl) (c.in_ok-inside.ensures.inside (context_of c.args.work.now.bank.now c.args.context.now) (text_of c.args.work.now.bank.now c.args.binder) (tree_of c.args.work.now.bank.now c.args.kind) (tree_of c.args.work.now.bank.now c.args.rest) (context_at c.args.work.now.bank.now c.check_in.new.work.bank.now (Grows-trans c.args.work.now.bank.now c.sort_in.new.work.bank.now c.check_in.new.work.bank.now c.in_ok-sort_in.ensures.grows c.in_ok-check_in.ensures.grows) c.args.context.now (context_of c.args.work.now.bank.now c.args.context.now) c.requires.context refl) (text_at c.args.work.now.bank.now c.check_in.new.work.bank.now (Grows-trans c.args.work.now.bank.now c.sort_in.new.work.bank.now c.check_in.new.work.bank.now c.in_ok-sort_in.ensures.grows c.in_ok-check_in.ensures.grows) c.args.binder (text_of c.args.work.now.bank.now c.args.binder) c.requires.binder refl) (tree_at c.args.work.now.bank.now c.check_in.new.work.bank.now (Grows-trans c.args.work.now.bank.now c.sort_in.new.work.bank.now c.check_in.new.work.bank.now c.in_ok-sort_in.ensures.grows c.in_ok-check_in.ensures.grows) c.args.kind (tree_of c.args.work.now.bank.now c.args.kind) c.requires.kind.has refl) (tree_at c.args.work.now.bank.now c.check_in.new.work.bank.now (Grows-trans c.args.work.now.bank.now c.sort_in.new.work.bank.now c.check_in.new.work.bank.now c.in_ok-sort_in.ensures.grows c.in_ok-check_in.ensures.grows) c.args.rest (tree_of c.args.work.now.bank.now c.args.rest) c.requires.rest.has refl))), (IsEnv-grown c.args.work.now.bank.now c.under.new.bank (Grows-trans c.args.work.now.bank.now c.check_in.new.work.bank.now c.under.new.bank (Grows-trans c.args.work.now.bank.now c.sort_in.new.work.bank.now c.check_in.new.work.bank.now c.in_ok-sort_in.ensures.grows c.in_ok-check_in.ensures.grows) c.in_ok-inside.ensures.grows) c.args.env.now c.requires.env, (let_inside c.under.new.bank c.in_ok-inside.inside (context_of c.args.work.now.bank.now c.args.context.now) (text_of c.args.work.now.bank.now c.args.binder) (tree_of c.args.work.now.bank.now c.args.kind) (tree_of c.args.work.now.bank.now c.args.rest) (tree_of c.check_in.new.work.bank.now c.args.value) (tree_of c.args.work.now.bank.now c.args.value) (tree_at c.args.work.now.bank.now c.check_in.new.work.bank.now (Grows-trans c.args.work.now.bank.now c.sort_in.new.work.bank.now c.check_in.new.work.bank.now c.in_ok-sort_in.ensures.grows c.in_ok-check_in.ensures.grows) c.args.value (tree_of c.args.work.now.bank.now c.args.value) c.requires.value.has refl) (c.in_ok-inside.ensures.inside (context_of c.args.work.now.bank.now c.args.context.now) (text_of c.args.work.now.bank.now c.args.binder) (tree_of c.args.work.now.bank.now c.args.kind) (tree_of c.args.work.now.bank.now c.args.rest) (context_at c.args.work.now.bank.now c.check_in.new.work.bank.now (Grows-trans c.args.work.now.bank.now c.sort_in.new.work.bank.now c.check_in.new.work.bank.now c.in_ok-sort_in.ensures.grows c.in_ok-check_in.ensures.grows) c.args.context.now (context_of c.args.work.now.bank.now c.args.context.now) c.requires.context refl) (text_at c.args.work.now.bank.now c.check_in.new.work.bank.now (Grows-trans c.args.work.now.bank.now c.sort_in.new.work.bank.now c.check_in.new.work.bank.now c.in_ok-sort_in.ensures.grows c.in_ok-check_in.ensures.grows) c.args.binder (text_of c.args.work.now.bank.now c.args.binder) c.requires.binder refl) (tree_at c.args.work.now.bank.now c.check_in.new.work.bank.now (Grows-trans c.args.work.now.bank.now c.sort_in.new.work.bank.now c.check_in.new.work.bank.now c.in_ok-sort_in.ensures.grows c.in_ok-check_in.ensures.grows) c.args.kind (tree_of c.args.work.now.bank.now c.args.kind) c.requires.kind.has refl) (tree_at c.args.work.now.bank.now c.check_in.new.work.bank.now (Grows-trans c.args.work.now.bank.now c.sort_in.new.work.bank.now c.check_in.new.work.bank.now c.in_ok-sort_in.ensures.grows c.in_ok-check_in.ensures.grows) c.args.rest (tree_of c.args.work.now.bank.now c.args.rest) c.requires.rest.has refl))).context))),
+    )
+
+pub definition_type-returns-in_err-body-clause-answer : goal.definition_type-returns-in_err-body-clause-answer
+definition_type-returns-in_err-body-clause-answer g t c E G e k =
+    let_rest_stops E G (text_of c.args.work.now.bank.now c.args.binder) (tree_of c.args.work.now.bank.now c.args.value) (tree_of c.args.work.now.bank.now c.args.kind) (tree_of c.args.work.now.bank.now c.args.rest) c.type_of.new.work.bank.now c.args.work.now.ticks.now.left c.type_of.new.work.ticks.now.left c.in_ok-sort_in.field-0 c.sort_in.new.work.ticks.now.left c.check_in.new.work.ticks.now.left c.from_residual-in_err-body.result c.in_err-body.field-0.0 c.from_residual-in_err-body.ensures.1 (c.in_ok-sort_in.ensures.answer E G (tree_of c.args.work.now.bank.now c.args.kind) e k refl)
+    (c.in_ok-check_in.ensures.answer E G (tree_of c.args.work.now.bank.now c.args.value) (tree_of c.args.work.now.bank.now c.args.kind) (env_at c.args.work.now.bank.now c.sort_in.new.work.bank.now c.in_ok-sort_in.ensures.grows c.args.env.now E c.requires.env e) (context_at c.args.work.now.bank.now c.sort_in.new.work.bank.now c.in_ok-sort_in.ensures.grows c.args.context.now G c.requires.context k) (tree_at c.args.work.now.bank.now c.sort_in.new.work.bank.now c.in_ok-sort_in.ensures.grows c.args.value (tree_of c.args.work.now.bank.now c.args.value) c.requires.value.has refl) (tree_at c.args.work.now.bank.now c.sort_in.new.work.bank.now c.in_ok-sort_in.ensures.grows c.args.kind (tree_of c.args.work.now.bank.now c.args.kind) c.requires.kind.has refl))
+    (c.in_err-body.ensures.answer E _ _ (env_at c.args.work.now.bank.now c.under.new.bank (Grows-trans c.args.work.now.bank.now c.check_in.new.work.bank.now c.under.new.bank (Grows-trans c.args.work.now.bank.now c.sort_in.new.work.bank.now c.check_in.new.work.bank.now c.in_ok-sort_in.ensures.grows c.in_ok-check_in.ensures.grows) c.in_ok-inside.ensures.grows) c.args.env.now E c.requires.env e) (let_inside c.under.new.bank c.in_ok-inside.inside G (text_of c.args.work.now.bank.now c.args.binder) (tree_of c.args.work.now.bank.now c.args.kind) (tree_of c.args.work.now.bank.now c.args.rest) (tree_of c.check_in.new.work.bank.now c.args.value) (tree_of c.args.work.now.bank.now c.args.value) (tree_at c.args.work.now.bank.now c.check_in.new.work.bank.now (Grows-trans c.args.work.now.bank.now c.sort_in.new.work.bank.now c.check_in.new.work.bank.now c.in_ok-sort_in.ensures.grows c.in_ok-check_in.ensures.grows) c.args.value (tree_of c.args.work.now.bank.now c.args.value) c.requires.value.has refl) (c.in_ok-inside.ensures.inside G (text_of c.args.work.now.bank.now c.args.binder) (tree_of c.args.work.now.bank.now c.args.kind) (tree_of c.args.work.now.bank.now c.args.rest) (context_at c.args.work.now.bank.now c.check_in.new.work.bank.now (Grows-trans c.args.work.now.bank.now c.sort_in.new.work.bank.now c.check_in.new.work.bank.now c.in_ok-sort_in.ensures.grows c.in_ok-check_in.ensures.grows) c.args.context.now G c.requires.context k) (text_at c.args.work.now.bank.now c.check_in.new.work.bank.now (Grows-trans c.args.work.now.bank.now c.sort_in.new.work.bank.now c.check_in.new.work.bank.now c.in_ok-sort_in.ensures.grows c.in_ok-check_in.ensures.grows) c.args.binder (text_of c.args.work.now.bank.now c.args.binder) c.requires.binder refl) (tree_at c.args.work.now.bank.now c.check_in.new.work.bank.now (Grows-trans c.args.work.now.bank.now c.sort_in.new.work.bank.now c.check_in.new.work.bank.now c.in_ok-sort_in.ensures.grows c.in_ok-check_in.ensures.grows) c.args.kind (tree_of c.args.work.now.bank.now c.args.kind) c.requires.kind.has refl) (tree_at c.args.work.now.bank.now c.check_in.new.work.bank.now (Grows-trans c.args.work.now.bank.now c.sort_in.new.work.bank.now c.check_in.new.work.bank.now c.in_ok-sort_in.ensures.grows c.in_ok-check_in.ensures.grows) c.args.rest (tree_of c.args.work.now.bank.now c.args.rest) c.requires.rest.has refl))).is (let_inside c.under.new.bank c.in_ok-inside.inside G (text_of c.args.work.now.bank.now c.args.binder) (tree_of c.args.work.now.bank.now c.args.kind) (tree_of c.args.work.now.bank.now c.args.rest) (tree_of c.check_in.new.work.bank.now c.args.value) (tree_of c.args.work.now.bank.now c.args.value) (tree_at c.args.work.now.bank.now c.check_in.new.work.bank.now (Grows-trans c.args.work.now.bank.now c.sort_in.new.work.bank.now c.check_in.new.work.bank.now c.in_ok-sort_in.ensures.grows c.in_ok-check_in.ensures.grows) c.args.value (tree_of c.args.work.now.bank.now c.args.value) c.requires.value.has refl) (c.in_ok-inside.ensures.inside G (text_of c.args.work.now.bank.now c.args.binder) (tree_of c.args.work.now.bank.now c.args.kind) (tree_of c.args.work.now.bank.now c.args.rest) (context_at c.args.work.now.bank.now c.check_in.new.work.bank.now (Grows-trans c.args.work.now.bank.now c.sort_in.new.work.bank.now c.check_in.new.work.bank.now c.in_ok-sort_in.ensures.grows c.in_ok-check_in.ensures.grows) c.args.context.now G c.requires.context k) (text_at c.args.work.now.bank.now c.check_in.new.work.bank.now (Grows-trans c.args.work.now.bank.now c.sort_in.new.work.bank.now c.check_in.new.work.bank.now c.in_ok-sort_in.ensures.grows c.in_ok-check_in.ensures.grows) c.args.binder (text_of c.args.work.now.bank.now c.args.binder) c.requires.binder refl) (tree_at c.args.work.now.bank.now c.check_in.new.work.bank.now (Grows-trans c.args.work.now.bank.now c.sort_in.new.work.bank.now c.check_in.new.work.bank.now c.in_ok-sort_in.ensures.grows c.in_ok-check_in.ensures.grows) c.args.kind (tree_of c.args.work.now.bank.now c.args.kind) c.requires.kind.has refl) (tree_at c.args.work.now.bank.now c.check_in.new.work.bank.now (Grows-trans c.args.work.now.bank.now c.sort_in.new.work.bank.now c.check_in.new.work.bank.now c.in_ok-sort_in.ensures.grows c.in_ok-check_in.ensures.grows) c.args.rest (tree_of c.args.work.now.bank.now c.args.rest) c.requires.rest.has refl))).term.is)
+
+pub definition_type-definition_kind-requires-clause-name : goal.definition_type-definition_kind-requires-clause-name
+definition_type-definition_kind-requires-clause-name g t c =
+    omega (arith, (let_inside c.under.new.bank c.in_ok-inside.inside (context_of c.args.work.now.bank.now c.args.context.now) (text_of c.args.work.now.bank.now c.args.binder) (tree_of c.args.work.now.bank.now c.args.kind) (tree_of c.args.work.now.bank.now c.args.rest) (tree_of c.check_in.new.work.bank.now c.args.value) (tree_of c.args.work.now.bank.now c.args.value) (tree_at c.args.work.now.bank.now c.check_in.new.work.bank.now (Grows-trans c.args.work.now.bank.now c.sort_in.new.work.bank.now c.check_in.new.work.bank.now c.in_ok-sort_in.ensures.grows c.in_ok-check_in.ensures.grows) c.args.value (tree_of c.args.work.now.bank.now c.args.value) c.requires.value.has refl) (c.in_ok-inside.ensures.inside (context_of c.args.work.now.bank.now c.args.context.now) (text_of c.args.work.now.bank.now c.args.binder) (tree_of c.args.work.now.bank.now c.args.kind) (tree_of c.args.work.now.bank.now c.args.rest) (context_at c.args.work.now.bank.now c.check_in.new.work.bank.now (Grows-trans c.args.work.now.bank.now c.sort_in.new.work.bank.now c.check_in.new.work.bank.now c.in_ok-sort_in.ensures.grows c.in_ok-check_in.ensures.grows) c.args.context.now (context_of c.args.work.now.bank.now c.args.context.now) c.requires.context refl) (text_at c.args.work.now.bank.now c.check_in.new.work.bank.now (Grows-trans c.args.work.now.bank.now c.sort_in.new.work.bank.now c.check_in.new.work.bank.now c.in_ok-sort_in.ensures.grows c.in_ok-check_in.ensures.grows) c.args.binder (text_of c.args.work.now.bank.now c.args.binder) c.requires.binder refl) (tree_at c.args.work.now.bank.now c.check_in.new.work.bank.now (Grows-trans c.args.work.now.bank.now c.sort_in.new.work.bank.now c.check_in.new.work.bank.now c.in_ok-sort_in.ensures.grows c.in_ok-check_in.ensures.grows) c.args.kind (tree_of c.args.work.now.bank.now c.args.kind) c.requires.kind.has refl) (tree_at c.args.work.now.bank.now c.check_in.new.work.bank.now (Grows-trans c.args.work.now.bank.now c.sort_in.new.work.bank.now c.check_in.new.work.bank.now c.in_ok-sort_in.ensures.grows c.in_ok-check_in.ensures.grows) c.args.rest (tree_of c.args.work.now.bank.now c.args.rest) c.requires.rest.has refl))).name.has, c.in_ok-body.ensures.grows.names)
+
+pub definition_type-returns-clause-answer : goal.definition_type-returns-clause-answer
+definition_type-returns-clause-answer g t c E G e k =
+    let_ends E G (text_of c.args.work.now.bank.now c.args.binder) (tree_of c.args.work.now.bank.now c.args.value) (tree_of c.args.work.now.bank.now c.args.kind) (tree_of c.args.work.now.bank.now c.args.rest) c.definition_kind.new.bank c.args.work.now.ticks.now.left c.type_of.new.work.ticks.now.left c.in_ok-sort_in.field-0 (tree_of c.type_of.new.work.bank.now c.in_ok-body.body) c.sort_in.new.work.ticks.now.left c.check_in.new.work.ticks.now.left c.definition_kind.result c.requires.value.within (c.in_ok-body.ensures.answer E _ _ (env_at c.args.work.now.bank.now c.under.new.bank (Grows-trans c.args.work.now.bank.now c.check_in.new.work.bank.now c.under.new.bank (Grows-trans c.args.work.now.bank.now c.sort_in.new.work.bank.now c.check_in.new.work.bank.now c.in_ok-sort_in.ensures.grows c.in_ok-check_in.ensures.grows) c.in_ok-inside.ensures.grows) c.args.env.now E c.requires.env e) (let_inside c.under.new.bank c.in_ok-inside.inside G (text_of c.args.work.now.bank.now c.args.binder) (tree_of c.args.work.now.bank.now c.args.kind) (tree_of c.args.work.now.bank.now c.args.rest) (tree_of c.check_in.new.work.bank.now c.args.value) (tree_of c.args.work.now.bank.now c.args.value) (tree_at c.args.work.now.bank.now c.check_in.new.work.bank.now (Grows-trans c.args.work.now.bank.now c.sort_in.new.work.bank.now c.check_in.new.work.bank.now c.in_ok-sort_in.ensures.grows c.in_ok-check_in.ensures.grows) c.args.value (tree_of c.args.work.now.bank.now c.args.value) c.requires.value.has refl) (c.in_ok-inside.ensures.inside G (text_of c.args.work.now.bank.now c.args.binder) (tree_of c.args.work.now.bank.now c.args.kind) (tree_of c.args.work.now.bank.now c.args.rest) (context_at c.args.work.now.bank.now c.check_in.new.work.bank.now (Grows-trans c.args.work.now.bank.now c.sort_in.new.work.bank.now c.check_in.new.work.bank.now c.in_ok-sort_in.ensures.grows c.in_ok-check_in.ensures.grows) c.args.context.now G c.requires.context k) (text_at c.args.work.now.bank.now c.check_in.new.work.bank.now (Grows-trans c.args.work.now.bank.now c.sort_in.new.work.bank.now c.check_in.new.work.bank.now c.in_ok-sort_in.ensures.grows c.in_ok-check_in.ensures.grows) c.args.binder (text_of c.args.work.now.bank.now c.args.binder) c.requires.binder refl) (tree_at c.args.work.now.bank.now c.check_in.new.work.bank.now (Grows-trans c.args.work.now.bank.now c.sort_in.new.work.bank.now c.check_in.new.work.bank.now c.in_ok-sort_in.ensures.grows c.in_ok-check_in.ensures.grows) c.args.kind (tree_of c.args.work.now.bank.now c.args.kind) c.requires.kind.has refl) (tree_at c.args.work.now.bank.now c.check_in.new.work.bank.now (Grows-trans c.args.work.now.bank.now c.sort_in.new.work.bank.now c.check_in.new.work.bank.now c.in_ok-sort_in.ensures.grows c.in_ok-check_in.ensures.grows) c.args.rest (tree_of c.args.work.now.bank.now c.args.rest) c.requires.rest.has refl))).is (let_inside c.under.new.bank c.in_ok-inside.inside G (text_of c.args.work.now.bank.now c.args.binder) (tree_of c.args.work.now.bank.now c.args.kind) (tree_of c.args.work.now.bank.now c.args.rest) (tree_of c.check_in.new.work.bank.now c.args.value) (tree_of c.args.work.now.bank.now c.args.value) (tree_at c.args.work.now.bank.now c.check_in.new.work.bank.now (Grows-trans c.args.work.now.bank.now c.sort_in.new.work.bank.now c.check_in.new.work.bank.now c.in_ok-sort_in.ensures.grows c.in_ok-check_in.ensures.grows) c.args.value (tree_of c.args.work.now.bank.now c.args.value) c.requires.value.has refl) (c.in_ok-inside.ensures.inside G (text_of c.args.work.now.bank.now c.args.binder) (tree_of c.args.work.now.bank.now c.args.kind) (tree_of c.args.work.now.bank.now c.args.rest) (context_at c.args.work.now.bank.now c.check_in.new.work.bank.now (Grows-trans c.args.work.now.bank.now c.sort_in.new.work.bank.now c.check_in.new.work.bank.now c.in_ok-sort_in.ensures.grows c.in_ok-check_in.ensures.grows) c.args.context.now G c.requires.context k) (text_at c.args.work.now.bank.now c.check_in.new.work.bank.now (Grows-trans c.args.work.now.bank.now c.sort_in.new.work.bank.now c.check_in.new.work.bank.now c.in_ok-sort_in.ensures.grows c.in_ok-check_in.ensures.grows) c.args.binder (text_of c.args.work.now.bank.now c.args.binder) c.requires.binder refl) (tree_at c.args.work.now.bank.now c.check_in.new.work.bank.now (Grows-trans c.args.work.now.bank.now c.sort_in.new.work.bank.now c.check_in.new.work.bank.now c.in_ok-sort_in.ensures.grows c.in_ok-check_in.ensures.grows) c.args.kind (tree_of c.args.work.now.bank.now c.args.kind) c.requires.kind.has refl) (tree_at c.args.work.now.bank.now c.check_in.new.work.bank.now (Grows-trans c.args.work.now.bank.now c.sort_in.new.work.bank.now c.check_in.new.work.bank.now c.in_ok-sort_in.ensures.grows c.in_ok-check_in.ensures.grows) c.args.rest (tree_of c.args.work.now.bank.now c.args.rest) c.requires.rest.has refl))).term.is).0.within (c.in_ok-sort_in.ensures.answer E G (tree_of c.args.work.now.bank.now c.args.kind) e k refl)
+    (c.in_ok-check_in.ensures.answer E G (tree_of c.args.work.now.bank.now c.args.value) (tree_of c.args.work.now.bank.now c.args.kind) (env_at c.args.work.now.bank.now c.sort_in.new.work.bank.now c.in_ok-sort_in.ensures.grows c.args.env.now E c.requires.env e) (context_at c.args.work.now.bank.now c.sort_in.new.work.bank.now c.in_ok-sort_in.ensures.grows c.args.context.now G c.requires.context k) (tree_at c.args.work.now.bank.now c.sort_in.new.work.bank.now c.in_ok-sort_in.ensures.grows c.args.value (tree_of c.args.work.now.bank.now c.args.value) c.requires.value.has refl) (tree_at c.args.work.now.bank.now c.sort_in.new.work.bank.now c.in_ok-sort_in.ensures.grows c.args.kind (tree_of c.args.work.now.bank.now c.args.kind) c.requires.kind.has refl))
+    (c.in_ok-body.ensures.answer E _ _ (env_at c.args.work.now.bank.now c.under.new.bank (Grows-trans c.args.work.now.bank.now c.check_in.new.work.bank.now c.under.new.bank (Grows-trans c.args.work.now.bank.now c.sort_in.new.work.bank.now c.check_in.new.work.bank.now c.in_ok-sort_in.ensures.grows c.in_ok-check_in.ensures.grows) c.in_ok-inside.ensures.grows) c.args.env.now E c.requires.env e) (let_inside c.under.new.bank c.in_ok-inside.inside G (text_of c.args.work.now.bank.now c.args.binder) (tree_of c.args.work.now.bank.now c.args.kind) (tree_of c.args.work.now.bank.now c.args.rest) (tree_of c.check_in.new.work.bank.now c.args.value) (tree_of c.args.work.now.bank.now c.args.value) (tree_at c.args.work.now.bank.now c.check_in.new.work.bank.now (Grows-trans c.args.work.now.bank.now c.sort_in.new.work.bank.now c.check_in.new.work.bank.now c.in_ok-sort_in.ensures.grows c.in_ok-check_in.ensures.grows) c.args.value (tree_of c.args.work.now.bank.now c.args.value) c.requires.value.has refl) (c.in_ok-inside.ensures.inside G (text_of c.args.work.now.bank.now c.args.binder) (tree_of c.args.work.now.bank.now c.args.kind) (tree_of c.args.work.now.bank.now c.args.rest) (context_at c.args.work.now.bank.now c.check_in.new.work.bank.now (Grows-trans c.args.work.now.bank.now c.sort_in.new.work.bank.now c.check_in.new.work.bank.now c.in_ok-sort_in.ensures.grows c.in_ok-check_in.ensures.grows) c.args.context.now G c.requires.context k) (text_at c.args.work.now.bank.now c.check_in.new.work.bank.now (Grows-trans c.args.work.now.bank.now c.sort_in.new.work.bank.now c.check_in.new.work.bank.now c.in_ok-sort_in.ensures.grows c.in_ok-check_in.ensures.grows) c.args.binder (text_of c.args.work.now.bank.now c.args.binder) c.requires.binder refl) (tree_at c.args.work.now.bank.now c.check_in.new.work.bank.now (Grows-trans c.args.work.now.bank.now c.sort_in.new.work.bank.now c.check_in.new.work.bank.now c.in_ok-sort_in.ensures.grows c.in_ok-check_in.ensures.grows) c.args.kind (tree_of c.args.work.now.bank.now c.args.kind) c.requires.kind.has refl) (tree_at c.args.work.now.bank.now c.check_in.new.work.bank.now (Grows-trans c.args.work.now.bank.now c.sort_in.new.work.bank.now c.check_in.new.work.bank.now c.in_ok-sort_in.ensures.grows c.in_ok-check_in.ensures.grows) c.args.rest (tree_of c.args.work.now.bank.now c.args.rest) c.requires.rest.has refl))).is (let_inside c.under.new.bank c.in_ok-inside.inside G (text_of c.args.work.now.bank.now c.args.binder) (tree_of c.args.work.now.bank.now c.args.kind) (tree_of c.args.work.now.bank.now c.args.rest) (tree_of c.check_in.new.work.bank.now c.args.value) (tree_of c.args.work.now.bank.now c.args.value) (tree_at c.args.work.now.bank.now c.check_in.new.work.bank.now (Grows-trans c.args.work.now.bank.now c.sort_in.new.work.bank.now c.check_in.new.work.bank.now c.in_ok-sort_in.ensures.grows c.in_ok-check_in.ensures.grows) c.args.value (tree_of c.args.work.now.bank.now c.args.value) c.requires.value.has refl) (c.in_ok-inside.ensures.inside G (text_of c.args.work.now.bank.now c.args.binder) (tree_of c.args.work.now.bank.now c.args.kind) (tree_of c.args.work.now.bank.now c.args.rest) (context_at c.args.work.now.bank.now c.check_in.new.work.bank.now (Grows-trans c.args.work.now.bank.now c.sort_in.new.work.bank.now c.check_in.new.work.bank.now c.in_ok-sort_in.ensures.grows c.in_ok-check_in.ensures.grows) c.args.context.now G c.requires.context k) (text_at c.args.work.now.bank.now c.check_in.new.work.bank.now (Grows-trans c.args.work.now.bank.now c.sort_in.new.work.bank.now c.check_in.new.work.bank.now c.in_ok-sort_in.ensures.grows c.in_ok-check_in.ensures.grows) c.args.binder (text_of c.args.work.now.bank.now c.args.binder) c.requires.binder refl) (tree_at c.args.work.now.bank.now c.check_in.new.work.bank.now (Grows-trans c.args.work.now.bank.now c.sort_in.new.work.bank.now c.check_in.new.work.bank.now c.in_ok-sort_in.ensures.grows c.in_ok-check_in.ensures.grows) c.args.kind (tree_of c.args.work.now.bank.now c.args.kind) c.requires.kind.has refl) (tree_at c.args.work.now.bank.now c.check_in.new.work.bank.now (Grows-trans c.args.work.now.bank.now c.sort_in.new.work.bank.now c.check_in.new.work.bank.now c.in_ok-sort_in.ensures.grows c.in_ok-check_in.ensures.grows) c.args.rest (tree_of c.args.work.now.bank.now c.args.rest) c.requires.rest.has refl))).term.is).1
+    (c.definition_kind.ensures.answer (tree_of c.args.work.now.bank.now c.args.value) (tree_of c.type_of.new.work.bank.now c.in_ok-body.body) (fresh G (text_of c.args.work.now.bank.now c.args.binder)) (tree_at c.args.work.now.bank.now c.type_of.new.work.bank.now (Grows-trans c.args.work.now.bank.now c.under.new.bank c.type_of.new.work.bank.now (Grows-trans c.args.work.now.bank.now c.check_in.new.work.bank.now c.under.new.bank (Grows-trans c.args.work.now.bank.now c.sort_in.new.work.bank.now c.check_in.new.work.bank.now c.in_ok-sort_in.ensures.grows c.in_ok-check_in.ensures.grows) c.in_ok-inside.ensures.grows) c.in_ok-body.ensures.grows) c.args.value (tree_of c.args.work.now.bank.now c.args.value) c.requires.value.has refl) (c.in_ok-body.ensures.grows.text c.in_ok-inside.inside.name (let_inside c.under.new.bank c.in_ok-inside.inside G (text_of c.args.work.now.bank.now c.args.binder) (tree_of c.args.work.now.bank.now c.args.kind) (tree_of c.args.work.now.bank.now c.args.rest) (tree_of c.check_in.new.work.bank.now c.args.value) (tree_of c.args.work.now.bank.now c.args.value) (tree_at c.args.work.now.bank.now c.check_in.new.work.bank.now (Grows-trans c.args.work.now.bank.now c.sort_in.new.work.bank.now c.check_in.new.work.bank.now c.in_ok-sort_in.ensures.grows c.in_ok-check_in.ensures.grows) c.args.value (tree_of c.args.work.now.bank.now c.args.value) c.requires.value.has refl) (c.in_ok-inside.ensures.inside G (text_of c.args.work.now.bank.now c.args.binder) (tree_of c.args.work.now.bank.now c.args.kind) (tree_of c.args.work.now.bank.now c.args.rest) (context_at c.args.work.now.bank.now c.check_in.new.work.bank.now (Grows-trans c.args.work.now.bank.now c.sort_in.new.work.bank.now c.check_in.new.work.bank.now c.in_ok-sort_in.ensures.grows c.in_ok-check_in.ensures.grows) c.args.context.now G c.requires.context k) (text_at c.args.work.now.bank.now c.check_in.new.work.bank.now (Grows-trans c.args.work.now.bank.now c.sort_in.new.work.bank.now c.check_in.new.work.bank.now c.in_ok-sort_in.ensures.grows c.in_ok-check_in.ensures.grows) c.args.binder (text_of c.args.work.now.bank.now c.args.binder) c.requires.binder refl) (tree_at c.args.work.now.bank.now c.check_in.new.work.bank.now (Grows-trans c.args.work.now.bank.now c.sort_in.new.work.bank.now c.check_in.new.work.bank.now c.in_ok-sort_in.ensures.grows c.in_ok-check_in.ensures.grows) c.args.kind (tree_of c.args.work.now.bank.now c.args.kind) c.requires.kind.has refl) (tree_at c.args.work.now.bank.now c.check_in.new.work.bank.now (Grows-trans c.args.work.now.bank.now c.sort_in.new.work.bank.now c.check_in.new.work.bank.now c.in_ok-sort_in.ensures.grows c.in_ok-check_in.ensures.grows) c.args.rest (tree_of c.args.work.now.bank.now c.args.rest) c.requires.rest.has refl))).name.has ∙ (let_inside c.under.new.bank c.in_ok-inside.inside G (text_of c.args.work.now.bank.now c.args.binder) (tree_of c.args.work.now.bank.now c.args.kind) (tree_of c.args.work.now.bank.now c.args.rest) (tree_of c.check_in.new.work.bank.now c.args.value) (tree_of c.args.work.now.bank.now c.args.value) (tree_at c.args.work.now.bank.now c.check_in.new.work.bank.now (Grows-trans c.args.work.now.bank.now c.sort_in.new.work.bank.now c.check_in.new.work.bank.now c.in_ok-sort_in.ensures.grows c.in_ok-check_in.ensures.grows) c.args.value (tree_of c.args.work.now.bank.now c.args.value) c.requires.value.has refl) (c.in_ok-inside.ensures.inside G (text_of c.args.work.now.bank.now c.args.binder) (tree_of c.args.work.now.bank.now c.args.kind) (tree_of c.args.work.now.bank.now c.args.rest) (context_at c.args.work.now.bank.now c.check_in.new.work.bank.now (Grows-trans c.args.work.now.bank.now c.sort_in.new.work.bank.now c.check_in.new.work.bank.now c.in_ok-sort_in.ensures.grows c.in_ok-check_in.ensures.grows) c.args.context.now G c.requires.context k) (text_at c.args.work.now.bank.now c.check_in.new.work.bank.now (Grows-trans c.args.work.now.bank.now c.sort_in.new.work.bank.now c.check_in.new.work.bank.now c.in_ok-sort_in.ensures.grows c.in_ok-check_in.ensures.grows) c.args.binder (text_of c.args.work.now.bank.now c.args.binder) c.requires.binder refl) (tree_at c.args.work.now.bank.now c.check_in.new.work.bank.now (Grows-trans c.args.work.now.bank.now c.sort_in.new.work.bank.now c.check_in.new.work.bank.now c.in_ok-sort_in.ensures.grows c.in_ok-check_in.ensures.grows) c.args.kind (tree_of c.args.work.now.bank.now c.args.kind) c.requires.kind.has refl) (tree_at c.args.work.now.bank.now c.check_in.new.work.bank.now (Grows-trans c.args.work.now.bank.now c.sort_in.new.work.bank.now c.check_in.new.work.bank.now c.in_ok-sort_in.ensures.grows c.in_ok-check_in.ensures.grows) c.args.rest (tree_of c.args.work.now.bank.now c.args.rest) c.requires.rest.has refl))).name.is) refl)

@@ -1,0 +1,107 @@
+//! Rows of products: the sort of one, and the sorts of its domains.
+
+ghost use Rattle.std.specs.Prelude.{◌≡◌, ◌+◌, ◌<◌, ◌++◌, ℕ, OnOk};
+ghost use Rattle.lq_trees.specs.Tree.{Tree, Context as TreeContext};
+ghost use Rattle.lq_terms.specs.Terms.{HasTerm, tree_of, Grows};
+ghost use Rattle.lq_terms.specs.Contexts.{context_of};
+ghost use Rattle.lq_calculus.specs.Declarations.{Env as Environment, all_proofs};
+ghost use Rattle.lq_calculus.specs.Typing.{is_above, first_big};
+ghost use Rattle.lq_calculus.specs.Checking.{sort_of, row_sorts};
+ghost use Rattle.lq_env.specs.Environments.{IsEnv, env_of};
+ghost use Rattle.lq_kernel.specs.Closed.{IsScoped, IsContext};
+ghost use Rattle.lq_kernel.specs.Steps.{Sorts, IsRowOr};
+
+use crate::faults::KernelFault;
+use crate::forms::product_sort;
+use crate::inside::under;
+use crate::typing::sort_in;
+use lq_env::Env;
+use lq_terms::{Bank, Context, NameId, Node, Steps, TermId, Work};
+use lq_trees::Sort;
+use std::sync::ledger::Ledger;
+
+/// The binder, the domain and the rest of a term that is a product.
+fn as_row(bank: &Bank<'_>, term: TermId) -> Option<(NameId, TermId, TermId)>
+    requires { HasTerm bank.now term }
+    ensures { IsRowOr bank.now result term }
+{
+    match bank.node(term) {
+        Node::Prod(binder, kind, rest) => Some((*binder, *kind, *rest)),
+        _ => None,
+    }
+}
+
+/// The sort of a type, which must have one. The sorts of the domains of its row of products are put behind
+/// the others, at no further tick. It calls itself as often as the row has domains.
+pub(crate) fn row_sort<L: Ledger>(
+    work: &mut Work<'_, '_>,
+    env: &Env,
+    context: &Context,
+    term: TermId,
+    sorts: &mut Vec<Sort>,
+    steps: &mut Steps<L>,
+) -> Result<Sort, KernelFault>
+    requires term { IsScoped work.old.bank.now 0 term }
+    requires env { IsEnv work.old.bank.now env.now }
+    requires context { IsContext work.old.bank.now context.now }
+    ensures answer { (E : Environment) (G : TreeContext) (T : Tree) → env_of work.old.bank.now env.now ≡ E → context_of work.old.bank.now context.now ≡ G → tree_of work.old.bank.now term ≡ T
+        → Sorts work.new.bank.now result (λ n. sort_of E n G T) work.old.ticks.now.left work.new.ticks.now.left }
+    ensures row { (E : Environment) (G : TreeContext) (T : Tree) → env_of work.old.bank.now env.now ≡ E → context_of work.old.bank.now context.now ≡ G → tree_of work.old.bank.now term ≡ T
+        → OnOk result ((n : ℕ) → work.old.ticks.now.left < n → sorts.new.items ≡ sorts.old.items ++ row_sorts E n G T) }
+    ensures same_bank { work.new.bank.ghost_name ≡ work.old.bank.ghost_name }
+    ensures same_ticks { work.new.ticks.ghost_name ≡ work.old.ticks.ghost_name }
+    ensures grows { Grows work.old.bank.now work.new.bank.now }
+    ensures budget { work.new.ticks.now.left + work.new.ticks.now.spent ≡ work.old.ticks.now.left + work.old.ticks.now.spent }
+    ensures counted { steps.new + work.old.ticks.now.spent ≡ steps.old + work.new.ticks.now.spent }
+{
+    let Some((binder, kind, rest)) = as_row(work.bank, term) else {
+        return sort_in(work, env, context, term, steps);
+    };
+    if !work.ticks.take(steps) {
+        return Err(KernelFault::StepsOut);
+    }
+    let domain = sort_in(work, env, context, kind, steps)?;
+    sorts.push(domain)?;
+    let inside = under(work.bank, context, binder, None, kind, rest)?;
+    let last = row_sort(work, env, &inside.context, inside.term, sorts, steps)?;
+    Ok(product_sort(domain, last))
+}
+
+/// Whether a sort is above another.
+fn is_above(sort: Sort, other: Sort) -> bool
+    ensures { result ≡ is_above sort other }
+{
+    match sort {
+        Sort::Base => false,
+        Sort::Level(level) => match other {
+            Sort::Base => false,
+            Sort::Level(bound) => bound < level,
+        },
+    }
+}
+
+/// The number, counted from 1, of the first argument whose sort is above that of a family.
+pub(crate) fn first_big(family: Sort, row: &[Sort]) -> Option<u64>
+    ensures { result ≡ first_big family 1 row.now }
+{
+    let mut number = 0;
+    for sort in row {
+        number += 1;
+        if is_above(*sort, family) {
+            return Some(number);
+        }
+    }
+    None
+}
+
+/// Whether each argument is a proof, by their sorts.
+pub(crate) fn all_proofs(row: &[Sort]) -> bool
+    ensures { result ≡ all_proofs row.now }
+{
+    for sort in row {
+        if let Sort::Level(_) = sort {
+            return false;
+        }
+    }
+    true
+}
