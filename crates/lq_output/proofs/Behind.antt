@@ -1,19 +1,19 @@
 -- Behind opaque constants that a script doesn't name, each of its sentences does what it does without them.
-use Rattle.std.proofs.Common.{◌≡◌, ◌∙◌, refl, ap, ap₂, ℕ, ◌||◌, true, false, List, [], ◌∷◌, ◌++◌, map, Option, Some, None, Result, Ok, Err, append_assoc}
+use Rattle.std.proofs.Common.{◌≡◌, ◌∙◌, refl, ap, ap₂, ℕ, zero, suc, ◌||◌, true, false, List, [], ◌∷◌, ◌++◌, map, Option, Some, None, Result, Ok, Err, append_assoc}
 use Rattle.std.specs.List.{AllByRecursion}
 use Rattle.std.proofs.lemmas.Bool.{or_parts}
 use Rattle.lq_trees.specs.declared.Sort.{Sort as Universe}
 use Rattle.lq_trees.specs.Tree.{Name, Tree, same_name}
 use Rattle.lq_trees.specs.Tree.Tree.{Rel, Var}
 use Rattle.lq_trees.specs.Fresh.{is_listed}
-use Rattle.lq_trees.specs.Ticks.{gives, fails, cut, tick, ◌>>=◌}
+use Rattle.lq_trees.specs.Ticks.{gives, fails, cut, tick, ◌>>=◌, within, under_budget}
 use Rattle.lq_calculus.specs.Contraction.{hypothesis}
 use Rattle.lq_calculus.specs.Declarations.{Env, Entry, EnvFault, name_taken, constant, lookup, first_taken, names_of}
 use Rattle.lq_calculus.specs.Checking.{Kernel, known, sort_of, check, no_env_fault, declare_constant}
 use Rattle.lq_output.specs.Grammar.{Surface, named, prop, forall_, to, Tactic, intro, exact, Sentence, theorem, proof, tactics, qed, read}
 use Rattle.lq_output.specs.Steps.{binder_of, constant_in, global, meant, product_of, resolved, Proof, goal, finished, known_as, exactly, after_tactic, after_tactics}
 use Rattle.lq_output.specs.Faults.{Fault, not_built}
-use Rattle.lq_output.specs.Sentences.{Place, outside, stated, begun, worked, State, comes_to, with_sort, with_tree, stating, proving, defined, declared, closing_proof, doing, sentence}
+use Rattle.lq_output.specs.Sentences.{Place, outside, stated, begun, worked, State, ended, comes_to, with_sort, with_tree, stating, proving, defined, declared, closing_proof, doing, sentence}
 use Rattle.lq_output.specs.Names.{term_names, tactic_name, sentence_names, read_by}
 use Rattle.lq_output.proofs.Unseen.{AllOpaque, IsNew, NamesOnly, lookup_behind, sort_behind, check_behind}
 use Rattle.lq_output.proofs.StateNames.{all-left, all-right, IsMade, ProofNames, PlaceNames, StateNames, TreeNames, resolved_names}
@@ -88,13 +88,14 @@ module _ (before : Env) where
   proving_behind env x A (Err f) = refl
 
   -- what is declared after the same work
-  declared_behind : {A : Type 0} (x : Name) (r : Kernel A) (k l : A → Kernel Env) → ((a : A) → declared x (comes_to (k a)) ≡ result_behind before (declared x (comes_to (l a))))
-      → declared x (comes_to (r >>= k)) ≡ result_behind before (declared x (comes_to (r >>= l)))
-  unfolding ◌>>=◌ comes_to declared
-  declared_behind x (gives a) k l h = h a
-  declared_behind x (fails f) k l h = refl
-  declared_behind x cut k l h = refl
-  declared_behind x (tick r) k l h = declared_behind x r k l h
+  declared_behind : {A : Type 0} (x : Name) (b : ℕ) (r : Kernel A) (k l : A → Kernel Env) → ((a : A) (c : ℕ) → declared x (ended (within c (k a))) ≡ result_behind before (declared x (ended (within c (l a)))))
+      → declared x (ended (within b (r >>= k))) ≡ result_behind before (declared x (ended (within b (r >>= l))))
+  unfolding ◌>>=◌ within ended declared
+  declared_behind x b (gives a) k l h = h a b
+  declared_behind x b (fails f) k l h = refl
+  declared_behind x b cut k l h = refl
+  declared_behind x zero (tick r) k l h = refl
+  declared_behind x (suc b) (tick r) k l h = declared_behind x b r k l h
 
 -- declaring a constant, by the work that goes before it
 unfoldable declaring : Option EnvFault → Kernel (Unit {0}) → Kernel Universe → Kernel (Unit {0}) → Env → Kernel Env
@@ -105,20 +106,20 @@ module _ (before : Env) (front : AllOpaque before) (env : Env) (own : AllOpaque 
   closing_behind :
       (n : ℕ) (x : Name) (A : Tree) (p : Proof) → IsNew before x → NamesOnly (IsNew before) A → ProofNames (IsNew before) p
       → closing_proof n (before ++ env) x A p ≡ result_behind before (closing_proof n env x A p)
-  unfolding closing_proof declare_constant declaring comes_to declared
+  unfolding closing_proof declare_constant declaring comes_to ended under_budget within declared
   closing_behind n x A (goal g T) h k l = refl
   closing_behind n x A (finished t) h k l =
       let new : Env = (before ++ env) ++ (x, constant A t true) ∷ [] in
-      ap (λ o. declared x (comes_to (declaring o (known [] (A ∷ t ∷ [])) (sort_of (before ++ env) n [] A) (check (before ++ env) n [] t A) new))) (taken_behind before env x h)
-      ∙ ap₂ (λ s c. declared x (comes_to (declaring (first_taken (names_of env) (x ∷ [])) (known [] (A ∷ t ∷ [])) s c new))) (sort_behind before env front own n [] A k) (check_behind before env front own n [] t A l)
-      ∙ declared_behind before x (no_env_fault (first_taken (names_of env) (x ∷ []))) _ _ (λ fine.
-      declared_behind before x (known [] (A ∷ t ∷ [])) _ _ (λ ok.
-      declared_behind before x (sort_of env n [] A) _ _ (λ s.
-      declared_behind before x (check env n [] t A) _ _ (λ checked. ap (λ e. Ok (defined x, record { env = e; place = outside })) (append_assoc before env ((x, constant A t true) ∷ []))))))
+      ap (λ o. declared x (ended (within n (declaring o (known [] (A ∷ t ∷ [])) (sort_of (before ++ env) (suc n) [] A) (check (before ++ env) (suc n) [] t A) new)))) (taken_behind before env x h)
+      ∙ ap₂ (λ s c. declared x (ended (within n (declaring (first_taken (names_of env) (x ∷ [])) (known [] (A ∷ t ∷ [])) s c new)))) (sort_behind before env front own (suc n) [] A k) (check_behind before env front own (suc n) [] t A l)
+      ∙ declared_behind before x n (no_env_fault (first_taken (names_of env) (x ∷ []))) _ _ (λ fine b.
+      declared_behind before x b (known [] (A ∷ t ∷ [])) _ _ (λ ok c.
+      declared_behind before x c (sort_of env (suc n) [] A) _ _ (λ s d.
+      declared_behind before x d (check env (suc n) [] t A) _ _ (λ checked left. ap (λ e. Ok (defined x, record { env = e; place = outside })) (append_assoc before env ((x, constant A t true) ∷ []))))))
 
   -- a statement
   stating_behind : (n : ℕ) (x : Name) (A : Surface) → IsNew before x → AllByRecursion (IsNew before) (term_names A) → stating n (before ++ env) x A ≡ result_behind before (stating n env x A)
-  unfolding stating with_tree with_sort
+  unfolding stating with_tree comes_to under_budget with_sort
   stating_behind n x A h k =
       ap₂ (λ o t. elim o as (λ _. Result (List ℕ × State) Fault) [ Some e ↦ Err not_built | None ↦ with_tree n (before ++ env) x t ]) (lookup_behind before env x h) (resolved_behind before env [] A k)
       ∙ either (lookup env x)
@@ -129,7 +130,7 @@ module _ (before : Env) (front : AllOpaque before) (env : Env) (own : AllOpaque 
 
       tree : (o : Option Tree) → TreeNames (IsNew before) o → with_tree n (before ++ env) x o ≡ result_behind before (with_tree n env x o)
       tree None l = refl
-      tree (Some T) l = ap (λ w. with_sort (before ++ env) x T (comes_to w)) (sort_behind before env front own n [] T l) ∙ sorted T (comes_to (sort_of env n [] T))
+      tree (Some T) l = ap (λ w. with_sort (before ++ env) x T (ended (within n w))) (sort_behind before env front own (suc n) [] T l) ∙ sorted T (comes_to n (λ m. sort_of env m [] T))
 
       either :
           (o : Option Entry) → elim o as (λ _. Result (List ℕ × State) Fault) [ Some e ↦ Err not_built | None ↦ with_tree n (before ++ env) x (resolved env [] A) ]

@@ -1,25 +1,27 @@
 -- A script keeps its declarations derived: each accepted theorem's term has its statement as its type, by the rules.
-use Rattle.std.proofs.Common.{◌≡◌, ℕ, refl, subst, List, [], ◌∷◌, Option, Some, None, Result, Ok, Err, true}
+use Rattle.std.proofs.Common.{◌≡◌, ◌∙◌, ℕ, suc, refl, ap, subst, List, [], ◌∷◌, Option, Some, None, Result, Ok, Err, true}
 use Rattle.lq_trees.specs.Tree.{Name, Tree}
-use Rattle.lq_trees.specs.Ticks.{gives, fails, cut, tick}
+use Rattle.lq_trees.specs.Ticks.{Outcome, done, failed, steps_out, within, under_budget}
 use Rattle.lq_calculus.specs.Declarations.{Env, Entry, lookup}
-use Rattle.lq_calculus.specs.Checking.{Kernel, sort_of, declare_constant}
+use Rattle.lq_calculus.specs.Checking.{Kernel, KernelFault, sort_of, declare_constant}
 use Rattle.lq_calculus.specs.Typing.{DerivedEnv, no_entry}
-use Rattle.lq_calculus.proofs.ConvSound.{Gives}
+use Rattle.lq_calculus.proofs.ConvSound.{Gives, done_gives}
 use Rattle.lq_calculus.proofs.DeclareSound.{constant_derived}
 use Rattle.lq_output.specs.Grammar.{Surface, Sentence, theorem, proof, tactics, qed, read}
 use Rattle.lq_output.specs.Steps.{resolved, Proof, goal, finished, after_tactics}
 use Rattle.lq_output.specs.Faults.{Fault, not_built}
-use Rattle.lq_output.specs.Sentences.{Place, outside, stated, begun, worked, State, comes_to, with_sort, with_tree, stating, proving, declared, closing_proof, doing, sentence}
+use Rattle.lq_output.specs.Sentences.{Place, outside, stated, begun, worked, State, ended, comes_to, with_sort, with_tree, stating, proving, declared, closing_proof, doing, sentence}
 use Rattle.lq_output.specs.Output.{start}
 
 -- work that comes to an answer ends with it
-pub comes_gives : {A : Type 0} (r : Kernel A) (a : A) → comes_to r ≡ Ok a → Gives r a
-unfolding comes_to
-comes_gives (gives b) a e = cc
-comes_gives (fails f) a e = cc
-comes_gives cut a e = cc
-comes_gives (tick r) a e = comes_gives r a e
+pub comes_gives : {A : Type 0} (b : ℕ) (f : ℕ → Kernel A) (a : A) → comes_to b f ≡ Ok a → Gives (f (suc b)) a
+unfolding comes_to ended under_budget
+comes_gives {A} b f a e = go (within b (f (suc b))) refl e
+  where
+    go : (o : Outcome KernelFault A) → within b (f (suc b)) ≡ o → ended o ≡ Ok a → Gives (f (suc b)) a
+    go (done c left) i e = let same : c ≡ a = cc in done_gives b (f (suc b)) a left (i ∙ ap (λ z. done z left) same)
+    go (failed x left) i e = absurd cc
+    go steps_out i e = absurd cc
 
 -- the state after, if there is one, has derived declarations
 abbrev pub LeavesDerived : Result (List ℕ × State) Fault → Type 0
@@ -33,7 +35,7 @@ sort_derived env x A (Err f) d = tt
 
 tree_derived : (n : ℕ) (env : Env) (x : Name) (o : Option Tree) → DerivedEnv env → LeavesDerived (with_tree n env x o)
 unfolding with_tree
-tree_derived n env x (Some A) d = sort_derived env x A (comes_to (sort_of env n [] A)) d
+tree_derived n env x (Some A) d = sort_derived env x A (comes_to n (λ m. sort_of env m [] A)) d
 tree_derived n env x None d = tt
 
 stating_derived : (n : ℕ) (env : Env) (x : Name) (A : Surface) → DerivedEnv env → LeavesDerived (stating n env x A)
@@ -58,8 +60,8 @@ closing_derived : (n : ℕ) (env : Env) (x : Name) (A : Tree) (p : Proof) → De
 unfolding closing_proof
 closing_derived n env x A (goal g T) d = tt
 closing_derived n env x A (finished t) d =
-    declared_derived x (comes_to (declare_constant env n x A t true))
-    (λ new e. constant_derived env n x A t true new d (comes_gives (declare_constant env n x A t true) new e))
+    declared_derived x (comes_to n (λ m. declare_constant env m x A t true))
+    (λ new e. constant_derived env (suc n) x A t true new d (comes_gives n (λ m. declare_constant env m x A t true) new e))
 
 -- a sentence keeps the declarations derived
 pub doing_derived : (n : ℕ) (env : Env) (p : Place) (x : Sentence) → DerivedEnv env → LeavesDerived (doing n env p x)

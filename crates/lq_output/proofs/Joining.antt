@@ -9,10 +9,10 @@ use Rattle.lq_calculus.specs.Declarations.{Env, names_of}
 use Rattle.lq_calculus.proofs.ConvSound.{same_name_is}
 use Rattle.lq_output.specs.declared.Status.{Status}
 use Rattle.lq_output.specs.Script.{cut}
-use Rattle.lq_output.specs.Output.{Output, behind, start, most_bytes, too_long, output, Eventually}
+use Rattle.lq_output.specs.Output.{Output, behind, start, most_bytes, too_long, output}
 use Rattle.lq_output.specs.Names.{sentence_names, names_by, script_names, theorem_names}
 use Rattle.lq_output.specs.Joined.{IsAccepted, SharesNone, NamesNoTheorem, joined, FitsJoined}
-use Rattle.lq_output.proofs.RunLaws.{run_of, output_short, eventually_both}
+use Rattle.lq_output.proofs.RunLaws.{run_of, output_short}
 use Rattle.lq_output.proofs.CutJoined.{bytes_before, cut-joined, run_blanks, blanks_more}
 use Rattle.lq_output.proofs.Unseen.{AllOpaque, IsNew}
 use Rattle.lq_output.proofs.StateNames.{IsMade, names-all}
@@ -79,7 +79,7 @@ run_first n a text e =
     (recursion_from_All (Contains (theorem_names a)) (theorem_names a) (All-contains_itself (theorem_names a))) (all_any (names_by sentence_names (cut a).sentences))
     (ap (λ o. o.status) (accepted_run n a text e))
 
--- the law for a bound on the depth of the kernel's calls
+-- the law for a budget of the kernel
 pub accepted_joined : (n : ℕ) (a b s t : List ℕ) → IsAccepted n a s → IsAccepted n b t → NamesNoTheorem a b → FitsJoined a b → IsAccepted n (joined a b) (s ++ t)
 unfolding behind
 accepted_joined n a b s t ha hb apart fits =
@@ -92,13 +92,6 @@ accepted_joined n a b s t ha hb apart fits =
     (run_blanks n (between g.env) g.next blanks (cut b) (blanks_more (cut a).rest g.blank)
     ∙ run_between n g.next g.env b t (opaque_made (Contains (theorem_names a)) g.env g.made) (new_names a b g.env apart g.made) hb)
     ∙ ap (λ (o : Output). behind o.text (record { text = t; status = Status.Done })) (accepted_run n a s ha)
-
--- the law for every bound that is large enough
-pub accepted_joined_eventually :
-    (a b s t : List ℕ) → Eventually (λ n. IsAccepted n a s) → Eventually (λ n. IsAccepted n b t) → NamesNoTheorem a b → FitsJoined a b
-    → Eventually (λ n. IsAccepted n (joined a b) (s ++ t))
-accepted_joined_eventually a b s t ha hb apart fits =
-    eventually_both (λ n. IsAccepted n a s) (λ n. IsAccepted n b t) (λ n. IsAccepted n (joined a b) (s ++ t)) (λ n ea eb. accepted_joined n a b s t ea eb apart fits) ha hb
 
 -- the names of theorems occur in the script
 theorems_occur : (a : List ℕ) → All (Contains (script_names a)) (theorem_names a)

@@ -1,5 +1,5 @@
 -- A script's output is a line for each declaration and at most a line of an error, and its declarations are derived.
-use Rattle.std.proofs.Common.{◌≡◌, ◌∙◌, refl, sym, ap, subst, ℕ, ◌+◌, ◌&&◌, Bool, true, false, nat_lt, List, [], ◌∷◌, ◌++◌, length, Option, Some, None, Result, Ok, Err, append_assoc}
+use Rattle.std.proofs.Common.{◌≡◌, ◌∙◌, refl, sym, ap, subst, ℕ, suc, ◌+◌, ◌&&◌, Bool, true, false, nat_lt, List, [], ◌∷◌, ◌++◌, length, Option, Some, None, Result, Ok, Err, append_assoc}
 use Rattle.lq_trees.specs.Tree.{Name, Tree}
 use Rattle.lq_trees.specs.declared.Sort.{Sort as Universe}
 use Rattle.lq_calculus.specs.Declarations.{Env, Entry, constant, lookup, first_taken, names_of}
@@ -52,7 +52,7 @@ stating_accepts n env x A r e = by (lookup env x) e
 
     tree : (o : Option Tree) → with_tree n env x o ≡ Ok r → Accepts env r.0 r.1.env
     tree None e = absurd cc
-    tree (Some T) e = sorted T (comes_to (sort_of env n [] T)) e
+    tree (Some T) e = sorted T (comes_to n (λ m. sort_of env m [] T)) e
 
     by : (o : Option Entry) → elim o as (λ _. Result (List ℕ × State) Fault) [ Some c ↦ Err not_built | None ↦ with_tree n env x (resolved env [] A) ] ≡ Ok r → Accepts env r.0 r.1.env
     by None e = tree (resolved env [] A) e
@@ -80,20 +80,20 @@ append_nothing (x ∷ a) = ap (λ z. x ∷ z) (append_nothing a)
 closing_accepts : (n : ℕ) (env : Env) (x : Name) (A : Tree) (p : Proof) (r : List ℕ × State) → closing_proof n env x A p ≡ Ok r → Accepts env r.0 r.1.env
 unfolding closing_proof declared reports
 closing_accepts n env x A (goal g T) r e = absurd cc
-closing_accepts n env x A (finished t) r e = by (comes_to (declare_constant env n x A t true)) refl e
+closing_accepts n env x A (finished t) r e = by (comes_to n (λ m. declare_constant env m x A t true)) refl e
   where
-    by : (o : Result Env Fault) → comes_to (declare_constant env n x A t true) ≡ o → declared x o ≡ Ok r → Accepts env r.0 r.1.env
+    by : (o : Result Env Fault) → comes_to n (λ m. declare_constant env m x A t true) ≡ o → declared x o ≡ Ok r → Accepts env r.0 r.1.env
     by (Err f) c e = absurd cc
     by (Ok new) c e =
-        let h : Gives (declare_constant env n x A t true) new = comes_gives (declare_constant env n x A t true) new c in
+        let h : Gives (declare_constant env (suc n) x A t true) new = comes_gives n (λ m. declare_constant env m x A t true) new c in
         let is = same_ok (defined x, record { env = new; place = outside }) r e in
         let same : r.1.env ≡ new = ap (λ z. z.1.env) (sym is) in
         let line : r.0 ≡ defined x = ap (λ z. z.0) (sym is) in
         record {
           own = (x, constant A t true) ∷ [];
-          grown = same ∙ sym (declare_gives n env x A t new h);
+          grown = same ∙ sym (declare_gives (suc n) env x A t new h);
           told = line ∙ append_nothing (defined x);
-          derived = λ d. subst DerivedEnv (sym same) (constant_derived env n x A t true new d h);
+          derived = λ d. subst DerivedEnv (sym same) (constant_derived env (suc n) x A t true new d h);
         }
 
 pub doing_accepts : (n : ℕ) (env : Env) (place : Place) (x : Sentence) (r : List ℕ × State) → doing n env place x ≡ Ok r → Accepts env r.0 r.1.env

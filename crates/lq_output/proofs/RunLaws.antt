@@ -1,16 +1,9 @@
 -- A run, sentence by sentence from the front of the script.
-use Rattle.std.proofs.Common.{◌≡◌, ◌∙◌, refl, sym, ap, ℕ, ◌+◌, max, nat_lt, false, List, [], ◌∷◌, ◌++◌, length, drop, Result, Ok, Err, append_assoc, arith}
+use Rattle.std.proofs.Common.{◌≡◌, ◌∙◌, refl, sym, ap, ℕ, ◌+◌, nat_lt, false, List, [], ◌∷◌, ◌++◌, length, drop, Result, Ok, Err, append_assoc}
 use Rattle.lq_output.specs.Script.{Script, cut}
 use Rattle.lq_output.specs.Faults.{Fault}
 use Rattle.lq_output.specs.Sentences.{State, sentence}
-use Rattle.lq_output.specs.Output.{Output, refused, behind, at_end, run, start, most_bytes, output, Eventually}
-
--- what holds for every bound that is large enough, put together
-pub eventually_map : (P Q : ℕ → Type 0) → ((n : ℕ) → P n → Q n) → Eventually P → Eventually Q
-eventually_map P Q f p = (p.0, λ n h. f n (p.1 n h))
-
-pub eventually_both : (P Q R : ℕ → Type 0) → ((n : ℕ) → P n → Q n → R n) → Eventually P → Eventually Q → Eventually R
-eventually_both P Q R f p q = (max p.0 q.0, λ n h. f n (p.1 n (omega arith)) (q.1 n (omega arith)))
+use Rattle.lq_output.specs.Output.{Output, refused, behind, at_end, run, start, most_bytes, output}
 
 pub behind_behind : (a b : List ℕ) (o : Output) → behind a (behind b o) ≡ behind (a ++ b) o
 unfolding behind

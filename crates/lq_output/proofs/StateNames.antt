@@ -1,10 +1,10 @@
 -- The names in a script's states are names of its sentences.
-use Rattle.std.proofs.Common.{refl, ℕ, Bool, true, false, List, [], ◌∷◌, ◌++◌, map, Option, Some, None, Result, Ok, Err}
+use Rattle.std.proofs.Common.{refl, ℕ, zero, suc, Bool, true, false, List, [], ◌∷◌, ◌++◌, map, Option, Some, None, Result, Ok, Err}
 use Rattle.std.specs.List.{AllByRecursion}
 use Rattle.lq_trees.specs.Tree.{Name, Tree, Hypothesis, Context}
 use Rattle.lq_trees.specs.Tree.Tree.{Rel, Var, Prod}
 use Rattle.lq_trees.specs.Fresh.{is_listed, opened, under}
-use Rattle.lq_trees.specs.Ticks.{gives, fails, cut, tick, ◌>>=◌}
+use Rattle.lq_trees.specs.Ticks.{gives, fails, cut, tick, ◌>>=◌, within, under_budget}
 use Rattle.lq_calculus.specs.Contraction.{hypothesis}
 use Rattle.lq_calculus.specs.Declarations.{Env, Entry, constant, family, arity, constructor, eliminator, lookup, first_taken, names_of}
 use Rattle.lq_calculus.specs.Checking.{Kernel, known, sort_of, check, no_env_fault, declare_constant}
@@ -12,7 +12,7 @@ use Rattle.lq_output.specs.Grammar.{Surface, named, prop, forall_, to, Tactic, i
 use Rattle.lq_output.specs.Alike.{alike}
 use Rattle.lq_output.specs.Steps.{binder_of, constant_in, global, meant, product_of, resolved, Proof, goal, finished, abstracted, introduced, known_as, exactly, after_tactic, after_tactics}
 use Rattle.lq_output.specs.Faults.{Fault, not_built, differs}
-use Rattle.lq_output.specs.Sentences.{Place, outside, stated, begun, worked, State, comes_to, with_sort, with_tree, stating, proving, declared, closing_proof, doing, sentence}
+use Rattle.lq_output.specs.Sentences.{Place, outside, stated, begun, worked, State, ended, comes_to, with_sort, with_tree, stating, proving, declared, closing_proof, doing, sentence}
 use Rattle.lq_output.specs.Names.{term_names, tactic_name, sentence_names, stated_names, read_by, names_by}
 use Rattle.lq_output.proofs.Unseen.{IsOpaque, NamesOnly, all-append, names-opened, names-close}
 
@@ -160,22 +160,23 @@ module _ (P R : Name → Type 0) where
   ResultNames (Err f) = Unit {0}
 
   -- what is declared, by what goes before it
-  declared_names : {A : Type 0} (x : Name) (r : Kernel A) (k : A → Kernel Env) → ((a : A) → ResultNames (declared x (comes_to (k a)))) → ResultNames (declared x (comes_to (r >>= k)))
-  unfolding ◌>>=◌ comes_to declared
-  declared_names x (gives a) k h = h a
-  declared_names x (fails f) k h = tt
-  declared_names x cut k h = tt
-  declared_names x (tick r) k h = declared_names x r k h
+  declared_names : {A : Type 0} (x : Name) (b : ℕ) (r : Kernel A) (k : A → Kernel Env) → ((a : A) (c : ℕ) → ResultNames (declared x (ended (within c (k a))))) → ResultNames (declared x (ended (within b (r >>= k))))
+  unfolding ◌>>=◌ within ended declared
+  declared_names x b (gives a) k h = h a b
+  declared_names x b (fails f) k h = tt
+  declared_names x b cut k h = tt
+  declared_names x zero (tick r) k h = tt
+  declared_names x (suc b) (tick r) k h = declared_names x b r k h
 
   -- `Qed` declares the theorem's name
   closing_names : (n : ℕ) (env : Env) (x : Name) (A : Tree) (p : Proof) → AllByRecursion (IsMade P) env → P x → ResultNames (closing_proof n env x A p)
-  unfolding closing_proof declare_constant comes_to declared
+  unfolding closing_proof declare_constant comes_to ended under_budget within declared
   closing_names n env x A (goal g T) h k = tt
   closing_names n env x A (finished t) h k =
-      declared_names x (no_env_fault (first_taken (names_of env) (x ∷ []))) _ (λ new.
-      declared_names x (known [] (A ∷ t ∷ [])) _ (λ ok.
-      declared_names x (sort_of env n [] A) _ (λ s.
-      declared_names x (check env n [] t A) _ (λ checked.
+      declared_names x n (no_env_fault (first_taken (names_of env) (x ∷ []))) _ (λ new b.
+      declared_names x b (known [] (A ∷ t ∷ [])) _ (λ ok c.
+      declared_names x c (sort_of env (suc n) [] A) _ (λ s d.
+      declared_names x d (check env (suc n) [] t A) _ (λ checked left.
       (all-append (IsMade P) env ((x, constant A t true) ∷ []) h ((k, refl), tt), tt)))))
 
   -- a statement brings in the theorem's name and the constants that it names
@@ -189,7 +190,7 @@ module _ (P R : Name → Type 0) where
 
       tree : (o : Option Tree) → TreeNames R o → ResultNames (with_tree n env x o)
       tree None m = tt
-      tree (Some T) m = sorted T (comes_to (sort_of env n [] T)) m
+      tree (Some T) m = sorted T (comes_to n (λ k. sort_of env k [] T)) m
 
       either : (o : Option Entry) → ResultNames (elim o as (λ _. Result (List ℕ × State) Fault) [ Some e ↦ Err not_built | None ↦ with_tree n env x (resolved env [] A) ])
       either (Some e) = tt

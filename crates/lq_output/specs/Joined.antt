@@ -6,9 +6,9 @@ use Rattle.lq_output.specs.declared.Status.{Status}
 use Rattle.lq_output.specs.Names.{script_names, theorem_names}
 use Rattle.lq_output.specs.Output.{most_bytes, output}
 
--- a script is accepted, and that is its output's text
+-- a script is accepted under that budget of the kernel for each sentence, and that is its output's text
 abbrev pub IsAccepted : ℕ → (bytes text : List ℕ) → Type 0
-IsAccepted n bytes text = output n bytes ≡ record { text = text; status = Status.Done }
+IsAccepted budget bytes text = output budget bytes ≡ record { text = text; status = Status.Done }
 
 -- no name occurs in both scripts
 abbrev pub SharesNone : (a b : List ℕ) → Type 0

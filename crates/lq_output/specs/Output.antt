@@ -1,5 +1,5 @@
 -- What a script's bytes give: the bytes written, and the status.
-use Rattle.std.specs.Prelude.{◌≡◌, ◌≤◌, ℕ, ◌+◌, ◌&&◌, Bool, true, false, nat_lt, List, [], ◌∷◌, ◌++◌, length, Ok, Err, codes, decimal}
+use Rattle.std.specs.Prelude.{◌≡◌, ℕ, ◌+◌, ◌&&◌, Bool, true, false, nat_lt, List, [], ◌∷◌, ◌++◌, length, Ok, Err, codes, decimal}
 use Rattle.lq_output.specs.declared.Status.{Status}
 use Rattle.lq_output.specs.Script.{is_blank, cut}
 use Rattle.lq_output.specs.Faults.{Fault, not_built}
@@ -31,14 +31,18 @@ is_outside _ = false
 unfoldable pub at_end : State → ℕ → List ℕ → Output
 at_end s k rest = elim (is_outside s.place && all_blank rest) [ true ↦ record { text = []; status = Status.Done } | false ↦ refused k not_built ]
 
--- sentences one after the other, counted from k on; the first fault ends the run
+-- sentences one after the other, counted from k on, each with that budget of the kernel; the first fault ends the run
 unfoldable pub run : ℕ → State → ℕ → List (List ℕ) → List ℕ → Output
-run n s k [] rest = at_end s k rest
-run n s k (p ∷ ps) rest = elim (sentence n s p) [ Ok r ↦ behind r.0 (run n r.1 (k + 1) ps rest) | Err f ↦ refused k f ]
+run budget s k [] rest = at_end s k rest
+run budget s k (p ∷ ps) rest = elim (sentence budget s p) [ Ok r ↦ behind r.0 (run budget r.1 (k + 1) ps rest) | Err f ↦ refused k f ]
 
 -- no declarations, and no theorem begun
 abbrev pub start : State
 start = record { env = []; place = outside }
+
+-- the kernel's budget for a sentence, in ticks
+abbrev pub kernel_budget : ℕ
+kernel_budget = 1000000
 
 -- the most bytes of a script
 abbrev pub most_bytes : ℕ
@@ -47,18 +51,18 @@ most_bytes = 4194304
 unfoldable pub too_long : Output
 too_long = record { text = codes "Error: script longer than 4194304 bytes" ++ 10 ∷ []; status = Status.TooLong }
 
--- the output of a script; `n` bounds the depth of the kernel's calls, and every bound that is large enough gives the same
+-- the output of a script, where each sentence has that budget of the kernel
 unfoldable pub output : ℕ → List ℕ → Output
-output n bytes = elim (nat_lt most_bytes (length bytes)) [ true ↦ too_long | false ↦ run n start 1 (cut bytes).sentences (cut bytes).rest ]
+output budget bytes = elim (nat_lt most_bytes (length bytes)) [ true ↦ too_long | false ↦ run budget start 1 (cut bytes).sentences (cut bytes).rest ]
 
 -- the declarations with which a run ends
 unfoldable pub reached : ℕ → State → List (List ℕ) → Env
-reached n s [] = s.env
-reached n s (p ∷ ps) = elim (sentence n s p) [ Ok r ↦ reached n r.1 ps | Err f ↦ s.env ]
+reached budget s [] = s.env
+reached budget s (p ∷ ps) = elim (sentence budget s p) [ Ok r ↦ reached budget r.1 ps | Err f ↦ s.env ]
 
 -- the declarations of a script: those of its theorems that are accepted, in order
 unfoldable pub declarations : ℕ → List ℕ → Env
-declarations n bytes = elim (nat_lt most_bytes (length bytes)) [ true ↦ [] | false ↦ reached n start (cut bytes).sentences ]
+declarations budget bytes = elim (nat_lt most_bytes (length bytes)) [ true ↦ [] | false ↦ reached budget start (cut bytes).sentences ]
 
 -- a line for each declaration
 unfoldable pub reports : Env → List ℕ
@@ -73,12 +77,8 @@ pub data IsLastLine : List ℕ → Type 0 where
 
 -- what is said of each script: each report is of a declaration, each declaration is reported, in order, with at most one line
 -- behind them; and each declaration's type has a sort and its body has that type by the typing rules, over those before it
-pub record HasDerivations (n : ℕ) (bytes : List ℕ) : Type 0 where
+pub record HasDerivations (budget : ℕ) (bytes : List ℕ) : Type 0 where
   pub last : List ℕ
   pub is_last : IsLastLine last
-  pub text : (output n bytes).text ≡ reports (declarations n bytes) ++ last
-  pub derived : DerivedEnv (declarations n bytes)
-
--- it holds for every bound that is large enough
-abbrev pub Eventually : (ℕ → Type 0) → Type 0
-Eventually P = (m : ℕ) × ((n : ℕ) → m ≤ n → P n)
+  pub text : (output budget bytes).text ≡ reports (declarations budget bytes) ++ last
+  pub derived : DerivedEnv (declarations budget bytes)
