@@ -17,9 +17,8 @@ use Rattle.lq_output.specs.Alike.{alike}
 use Rattle.lq_output.specs.Steps as steps
 use Rattle.lq_output.specs.Steps.{known_as, exactly, abstracted}
 use Rattle.lq_output.proofs.AlikeLaws.{alike_same, same_alike}
-use Rattle.lq_kernel.specs.declared.environment.Constant.{Constant}
-use Rattle.lq_kernel.specs.Environments.{env_of}
-use Rattle.lq_kernel.specs.Plain.{IsPlainEnv}
+use Rattle.lq_env.specs.declared.environment.Declared.{Declared}
+use Rattle.lq_env.specs.Environments.{IsEnv, env_of}
 use Rattle.lq_script.specs.Introduced.{Introduced, names_of, abstraction}
 use Rattle.lq_script.specs.Proofs.{IsKnown, IsStatement}
 use Rattle.lq_script.proofs.Grown.{env_of-grown}
@@ -42,7 +41,7 @@ exactly_same : (g : Context) (T t A : Tree) (o : Option (Tree × Tree)) → o �
 unfolding exactly
 exactly_same g T t A o e a = rw (e, exactly) (rw a refl)
 
-module _ (old m1 : Terms) (ps : List (NameId × Constant)) (hs : List Hypothesis) (x : NameId) (text : Name) (conclusion : TermId) (g1 : Grows old m1) (env : IsPlainEnv old ps) (c : HasContext old hs) (n : IsName m1 x text) (T : HasTerm old conclusion) where
+module _ (old m1 : Terms) (ps : List (NameId × Declared)) (hs : List Hypothesis) (x : NameId) (text : Name) (conclusion : TermId) (g1 : Grows old m1) (env : IsEnv old ps) (c : HasContext old hs) (n : IsName m1 x text) (T : HasTerm old conclusion) where
   known_same : known_as (env_of m1 ps) (context_of m1 hs) (text_of m1 x) ≡ known_as (env_of old ps) (context_of old hs) text
   known_same = ap₂ (λ e h. known_as e h (text_of m1 x)) (env_of-grown old m1 ps g1 env) (context_of-grown old m1 hs g1 c) ∙ ap (known_as (env_of old ps) (context_of old hs)) n.is
 

@@ -8,7 +8,7 @@ use Rattle.lq_output.specs.declared.Status.TheVariants.{Done, ScriptFault, Usage
 use Rattle.lq_output.specs.Faults.{Fault}
 use Rattle.lq_output.specs.Sentences.{State, sentence}
 use Rattle.lq_output.specs.Script.{cut}
-use Rattle.lq_output.specs.Output.{Output, output, run, start, most_bytes, too_long, at_end, is_outside, all_blank, refused, behind}
+use Rattle.lq_output.specs.Output.{kernel_budget, Output, output, run, start, most_bytes, too_long, at_end, is_outside, all_blank, refused, behind}
 use Rattle.lq_output.specs.Faults.{not_built}
 use Rattle.lq_output.proofs.RunLaws.{output_short}
 use Rattle.lq_script.specs.Answers.{as_output, IsOutputOf}
@@ -61,34 +61,25 @@ status_output n bytes = by (nat_lt most_bytes (length bytes)) refl
 
 -- so it is with an answer
 pub answer_verdict : (bytes : List ℕ) (a : Answer) → IsOutputOf bytes a → IsVerdict a.status
-answer_verdict bytes a is = subst (λ (o : Output). IsVerdict o.status) (is.1 is.0 (omega arith)) (status_output is.0 bytes)
+answer_verdict bytes a is = subst (λ (o : Output). IsVerdict o.status) is (status_output kernel_budget bytes)
 
 -- all of an answer's text is there
 all_given : (bytes : List ℕ) (before after : Option (List ℕ)) (a : Answer) (status : Status)
     → IsOutputOf (take 4194305 bytes) a → a.status ≡ status → Appends before after a.text.items → GivesAll bytes before after status
-all_given bytes before after a status is e there = (
-  is.0,
-  λ n h.
-      let o : output n bytes ≡ as_output a = sym (output_front n bytes) ∙ is.1 n h in
-      (ap (λ (z : Output). z.status) o ∙ e, subst (λ (z : Output). Appends before after z.text) (sym o) there),
-)
+all_given bytes before after a status is e there =
+    let o : output kernel_budget bytes ≡ as_output a = sym (output_front kernel_budget bytes) ∙ is in
+    (ap (λ (z : Output). z.status) o ∙ e, subst (λ (z : Output). Appends before after z.text) (sym o) there)
 
 -- a front of it is there
 front_given : (bytes : List ℕ) (before after : Option (List ℕ)) (a : Answer)
     → IsOutputOf (take 4194305 bytes) a → AppendsFront before after a.text.items → GivesFront bytes before after
-front_given bytes before after a is there = (
-  there.count,
-  (
-    is.0,
-    λ n h.
-        let o : output n bytes ≡ as_output a = sym (output_front n bytes) ∙ is.1 n h in
-        subst (λ (z : Output). Appends before after (take there.count z.text)) (sym o) there.there,
-  ),
-)
+front_given bytes before after a is there =
+    let o : output kernel_budget bytes ≡ as_output a = sym (output_front kernel_budget bytes) ∙ is in
+    (there.count, subst (λ (z : Output). Appends before after (take there.count z.text)) (sym o) there.there)
 
 -- nothing is there
 pub nothing_given : (bytes : List ℕ) (known : Option (List ℕ)) → GivesFront bytes known known
-nothing_given bytes known = (0, (0, λ n h. same known))
+nothing_given bytes known = (0, same known)
   where
     same : (known : Option (List ℕ)) → Appends known known []
     same None = tt
@@ -122,7 +113,7 @@ short_ended bytes rest script a reads is other = by (nat_lt most_bytes (length s
   where
     by : (b : Bool) → nat_lt most_bytes (length script) ≡ b → rest ≡ []
     by true e =
-        let o : too_long ≡ as_output a = sym (output_long is.0 script e) ∙ is.1 is.0 (omega arith) in
+        let o : too_long ≡ as_output a = sym (output_long kernel_budget script e) ∙ is in
         absurd (other (sym (ap (λ (z : Output). z.status) o)))
     by false e =
         let l : length script ≤ most_bytes = ltb-false most_bytes (length script) e in

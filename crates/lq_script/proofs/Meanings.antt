@@ -1,20 +1,17 @@
 -- Names and their meanings, by the places of a bank.
-use Rattle.std.proofs.Common.{◌≡◌, ℕ, ◌+◌, ◌≤◌, ◌<◌, refl, sym, ◌∙◌, ap, List, [], ◌∷◌, ◌++◌, length, get_or, take, Option, Some, None, Bool, true, false, arith, length-append, eqb-true, eq-eqb}
+use Rattle.std.proofs.Common.{◌≡◌, ℕ, ◌+◌, ◌≤◌, ◌<◌, refl, sym, ◌∙◌, ap, List, [], ◌∷◌, ◌++◌, length, get_or, take, Option, Some, None, Bool, arith, length-append}
 use Rattle.std.proofs.Common.{subst as along}
-use Rattle.std.specs.Prelude.{if◌then◌else◌, ◌==◌, option_map, IfSome}
+use Rattle.std.specs.Prelude.{is_some, IfSome}
 use Rattle.std.proofs.lemmas.List.{take_more, length-take}
-use Rattle.std.proofs.lemmas.Slice.Eq.{bytes_eq-Decides}
 use Rattle.lq_trees.specs.Tree.{Name, Tree, same_name}
 use Rattle.lq_terms.specs.declared.nodes.NameId.{NameId}
 use Rattle.lq_terms.specs.declared.nodes.TermId.{TermId}
 use Rattle.lq_terms.specs.declared.nodes.Node.{Node}
 use Rattle.lq_terms.specs.Terms.{Terms, HasName, HasTerm, IsTerm, text_of, tree_of, node_tree}
-use Rattle.lq_calculus.specs.Declarations.{Env, lookup}
-use Rattle.lq_calculus.proofs.ConvSound.{same_name_is}
+use Rattle.lq_calculus.specs.Declarations.{Env, Entry as Declaration, lookup}
 use Rattle.lq_output.specs.Steps.{binder_of, constant_in, global, meant, product_of}
-use Rattle.lq_kernel.specs.declared.environment.Constant.{Constant}
-use Rattle.lq_kernel.specs.Environments.{constant_of, env_of, entry_of}
-use Rattle.lq_kernel.specs.Plain.{IsPlainTerm, IsPlainEnv}
+use Rattle.lq_env.specs.declared.environment.Entry.{Entry}
+use Rattle.lq_env.specs.Environments.{IsOwn, Looks}
 use Rattle.lq_script.specs.Places.{next_place}
 use Rattle.lq_script.specs.Scopes.{scope_of, IsGlobal}
 use Rattle.lq_script.proofs.Places.{place_next, place_within}
@@ -43,46 +40,32 @@ module _ (bank : Terms) (xs : List NameId) (i : ℕ) (x : Name) where
 abbrev pub IsApart : Terms → NameId → Type 0
 IsApart bank x = (y : NameId) → HasName bank y → text_of bank y ≡ text_of bank x → y ≡ x
 
-module _ (bank : Terms) (x : NameId) (apart : IsApart bank x) where
-  same_place : (y : NameId) → HasName bank y → same_name (text_of bank x) (text_of bank y) ≡ (x.place == y.place)
-  same_place y h = go (same_name (text_of bank x) (text_of bank y)) (x.place == y.place) refl refl
-    where
-      go : (a b : Bool) → same_name (text_of bank x) (text_of bank y) ≡ a → (x.place == y.place) ≡ b → a ≡ b
-      go true true p q = refl
-      go false false p q = refl
-      go true false p q =
-          let same : y ≡ x = apart y h (sym (same_name_is _ _ p)) in
-          let here : (x.place == y.place) ≡ true = eq-eqb x.place y.place (ap (λ (z : NameId). z.place) (sym same)) in
-          cc
-      go false true p q =
-          let same : text_of bank x ≡ text_of bank y = ap (λ (n : ℕ). text_of bank (record { place = n })) (eqb-true x.place y.place q) in
-          let here : same_name (text_of bank x) (text_of bank y) ≡ true = (bytes_eq-Decides _ _).1 same in
-          cc
+-- what an environment tells of a name
+pub is_own : (bank : Terms) (x : NameId) → HasName bank x → IsApart bank x → IsOwn bank x
+is_own bank x h apart = record { has = h; apart = apart }
 
-  -- the entry of a name
-  pub lookup_is : (ps : List (NameId × Constant)) → IsPlainEnv bank ps → lookup (env_of bank ps) (text_of bank x) ≡ option_map (entry_of bank) (constant_of ps x)
-  lookup_is [] h = refl
-  lookup_is (p ∷ ps) h = rw (same_place p.0 h.0.name, lookup_is ps h.1) (go (x.place == p.0.place))
-    where
-      go : (b : Bool) → (if b then Some (entry_of bank p.1) else option_map (entry_of bank) (constant_of ps x)) ≡ option_map (entry_of bank) (if b then Some p.1 else constant_of ps x)
-      go true = refl
-      go false = refl
+pub looks_some : (bank : Terms) (o : Option Entry) (e : Option Declaration) → Looks bank o e → is_some o ≡ is_some e
+looks_some bank None e h = ap is_some (sym h)
+looks_some bank (Some c) e h = ap is_some (sym h.1)
 
-  pub constant_plain : (ps : List (NameId × Constant)) (c : Constant) → IsPlainEnv bank ps → constant_of ps x ≡ Some c → IsPlainTerm bank 0 c.kind
-  constant_plain [] c h e = absurd cc
-  constant_plain (p ∷ ps) c h e = go (x.place == p.0.place) e (λ k. constant_plain ps c h.1 k)
-    where
-      go : (b : Bool) → (if b then Some p.1 else constant_of ps x) ≡ Some c → (constant_of ps x ≡ Some c → IsPlainTerm bank 0 c.kind) → IsPlainTerm bank 0 c.kind
-      go true e ih = let same : p.1 ≡ c = cc in along (λ (d : Constant). IsPlainTerm bank 0 d.kind) same h.0.kind
-      go false e ih = ih e
-
-  pub global_known : (ps : List (NameId × Constant)) (c : Constant) → IsPlainEnv bank ps → constant_of ps x ≡ Some c → IsGlobal bank (text_of bank x) (Some c.kind) (global (env_of bank ps) (text_of bank x))
+module _ (bank : Terms) (env : Env) (x : Name) where
+  pub global_missing : Looks bank None (lookup env x) → IsGlobal bank x None (global env x)
   unfolding global constant_in
-  global_known ps c h e = ((constant_plain ps c h e).has, rw (lookup_is ps h, e, constant_in))
+  global_missing h = rw (h, constant_in) refl
 
-  pub global_unknown : (ps : List (NameId × Constant)) → IsPlainEnv bank ps → constant_of ps x ≡ None → IsGlobal bank (text_of bank x) None (global (env_of bank ps) (text_of bank x))
+  pub global_known : (e : Entry) (kind body : TermId) (opaque : Bool) → e ≡ Entry.Constant kind body opaque → Looks bank (Some e) (lookup env x) → IsGlobal bank x (Some kind) (global env x)
   unfolding global constant_in
-  global_unknown ps h e = rw (lookup_is ps h, e, constant_in)
+  global_known e kind body opaque is h =
+      let k : Looks bank (Some (Entry.Constant kind body opaque)) (lookup env x) = along (λ z. Looks bank (Some z) (lookup env x)) is h in
+      (k.0.0.has, rw (k.1, constant_in) refl)
+
+  pub global_other : (e : Entry) → ((kind body : TermId) (opaque : Bool) → e ≡ Entry.Constant kind body opaque → ⊥) → Looks bank (Some e) (lookup env x) → IsGlobal bank x None (global env x)
+  unfolding global constant_in
+  global_other (Entry.Constant kind body opaque) other h = absurd (other kind body opaque refl)
+  global_other (Entry.Family f ss) other h = rw (h.1, constant_in) refl
+  global_other (Entry.Arity kind) other h = rw (h.1, constant_in) refl
+  global_other (Entry.Constructor f k) other h = rw (h.1, constant_in) refl
+  global_other (Entry.Eliminator f u) other h = rw (h.1, constant_in) refl
 
 pub nearest_none : (x : Name) → None ≡ binder_of [] x
 unfolding binder_of

@@ -1,11 +1,12 @@
 -- What a sentence does in its place, by the places of a bank.
-use Rattle.std.proofs.Common.{◌≡◌, ℕ, refl, sym, ◌∙◌, ap, ap₂, List, [], ◌∷◌, ◌++◌, Option, Some, None, Result, Ok, Err, Bool, true, false, arith}
+use Rattle.std.proofs.Common.{◌≡◌, ℕ, refl, sym, ◌∙◌, ap, ap₂, List, [], Option, Some, None, Result, Ok, Err, true, false, arith}
 use Rattle.std.proofs.Common.{subst as along}
-use Rattle.std.specs.Prelude.{IfSome, is_some, option_map}
+use Rattle.std.specs.Prelude.{IfSome, is_some}
 use Rattle.std.specs.Option.{option_copied}
 use Rattle.std.specs.Borrow.{Bor}
 use Rattle.lq_trees.specs.declared.Sort.{Sort as Universe}
 use Rattle.lq_trees.specs.Tree.{Name, Tree}
+use Rattle.lq_trees.specs.Ticks.{done, ComesTo}
 use Rattle.lq_terms.specs.declared.nodes.NameId.{NameId}
 use Rattle.lq_terms.specs.declared.nodes.TermId.{TermId}
 use Rattle.lq_terms.specs.declared.nodes.Hypothesis.{Hypothesis}
@@ -13,233 +14,210 @@ use Rattle.lq_terms.specs.Terms.{Terms, HasName, IsName, Grows, text_of, tree_of
 use Rattle.lq_terms.proofs.Growth.{Grows-trans}
 use Rattle.lq_calculus.specs.Declarations.{Env, Entry, lookup}
 use Rattle.lq_calculus.specs.Checking.{Kernel, sort_of, declare_constant}
-use Rattle.lq_calculus.specs.Typing.{DerivedEnv}
-use Rattle.lq_output.proofs.Derived.{LeavesDerived, doing_derived}
+use Rattle.lq_output.specs.Output.{kernel_budget}
 use Rattle.lq_output.specs.Faults as faults
-use Rattle.lq_output.specs.Grammar.{Surface, Sentence, theorem, proof, tactics, qed, Tactic}
+use Rattle.lq_output.specs.Grammar.{Surface, theorem, proof, tactics, qed, Tactic}
 use Rattle.lq_output.specs.Steps as steps
 use Rattle.lq_output.specs.Steps.{resolved, after_tactics}
-use Rattle.lq_output.specs.Sentences as sentences
-use Rattle.lq_output.specs.Sentences.{State, outside, stated, begun, worked, comes_to, with_sort, with_tree, stating, proving, defined, declared, closing_proof, doing}
-use Rattle.lq_kernel.specs.declared.environment.Constant.{Constant}
+use Rattle.lq_output.specs.Sentences.{State, stated, worked, comes_to, with_sort, with_tree, stating, proving, defined, declared, closing_proof, doing}
+use Rattle.lq_env.specs.declared.environment.Declared.{Declared}
 use Rattle.lq_kernel.specs.declared.faults.KernelFault.{KernelFault}
-use Rattle.lq_kernel.specs.Endings.{EndsAs}
-use Rattle.lq_kernel.specs.Environments.{env_of, constant_of, entry_of}
-use Rattle.lq_kernel.specs.Plain.{IsPlainConstant, IsPlainEnv}
+use Rattle.lq_env.specs.Environments.{IsEnv, env_of}
 use Rattle.lq_kernel.specs.Answers.{Refuses}
 use Rattle.lq_script.specs.declared.fault.SentenceFault.{SentenceFault}
 use Rattle.lq_script.specs.declared.tactics.Proof.{Proof}
 use Rattle.lq_script.specs.declared.session.Place.{Place}
 use Rattle.lq_script.specs.Scopes.{IsMeant}
 use Rattle.lq_script.specs.Proofs.{proof_of, HasProof, IsStatement, Reaches, Proves, Tells}
-use Rattle.lq_script.specs.Sessions.{Comes, place_of, begun_of, IsPlace, IsSession, state_of, Moves, Runs, told_of}
-use Rattle.lq_script.proofs.Grown.{IsPlainEnv-grown, env_of-grown}
+use Rattle.lq_script.specs.Sessions.{place_of, begun_of, IsPlace, IsSession, state_of, Moves, Runs, told_of}
+use Rattle.lq_script.proofs.Grown.{IsEnv-grown, env_of-grown}
 use Rattle.lq_script.proofs.Proving.{HasContext-grown, context_of-grown}
-use Rattle.lq_script.proofs.Meanings.{IsApart, lookup_is}
 use Rattle.lq_script.proofs.Running.{tells_weaker}
 use Rattle.lq_script.proofs.Statements.{IsStatement-grown}
-use Rattle.lq_script.proofs.Telling.{comes_by, comes_always, ends_comes, refuses_tells}
+use Rattle.lq_script.proofs.Telling.{comes_ok, refuses_tells}
 
 -- whether a name is declared
 pub copied_some : {T : Type 0} (r : Option (Bor T)) → is_some r ≡ is_some (option_copied r)
 copied_some None = refl
 copied_some (Some x) = refl
 
-pub declared_is : (bank : Terms) (ps : List (NameId × Constant)) (x : NameId) (b : Bool) (o : Option Constant) → IsApart bank x → IsPlainEnv bank ps → o ≡ constant_of ps x → b ≡ is_some o
-    → b ≡ is_some (lookup (env_of bank ps) (text_of bank x))
-declared_is bank ps x b o apart plain e h = h ∙ ap is_some e ∙ go (constant_of ps x) ∙ ap is_some (sym (lookup_is bank x apart ps plain))
-  where
-    go : (c : Option Constant) → is_some c ≡ is_some (option_map (entry_of bank) c)
-    go None = refl
-    go (Some c) = refl
-
 -- a statement whose names are not known, and one whose names are
 module _ (E : Env) (x : Name) (r : Option Tree) where
-  pub names_unknown : (m : Terms) (o : Option TermId) → o ≡ None → IsMeant m o r → Comes (λ n. with_tree n E x r) (Err faults.not_built)
+  pub names_unknown : (m : Terms) (o : Option TermId) → o ≡ None → IsMeant m o r → with_tree kernel_budget E x r ≡ Err faults.not_built
   unfolding with_tree
   names_unknown m o e h =
       let none : r ≡ None = along (λ z. IsMeant m z r) e h in
-      comes_always _ _ (λ n. ap (with_tree n E x) none)
+      ap (with_tree kernel_budget E x) none
 
   known : (m : Terms) (o : Option TermId) (t : TermId) → o ≡ Some t → IsMeant m o r → r ≡ Some (tree_of m t)
   known m o t e h = (along (λ z. IsMeant m z r) e h).1
 
-  pub sorted : (m : Terms) (o : Option TermId) (t : TermId) → o ≡ Some t → IsMeant m o r → (s : Universe) → Comes (λ n. comes_to (sort_of E n [] (tree_of m t))) (Ok s)
-      → Comes (λ n. with_tree n E x r) (Ok ([], record { env = E; place = stated x (tree_of m t) }))
+  pub sorted : (m : Terms) (o : Option TermId) (t : TermId) → o ≡ Some t → IsMeant m o r → (s : Universe) → comes_to kernel_budget (λ n. sort_of E n [] (tree_of m t)) ≡ Ok s
+      → with_tree kernel_budget E x r ≡ Ok ([], record { env = E; place = stated x (tree_of m t) })
   unfolding with_tree with_sort
-  sorted m o t e h s c = comes_by _ _ (Ok s) _ (λ n d. ap (with_tree n E x) (known m o t e h) ∙ ap (with_sort E x (tree_of m t)) d) c
+  sorted m o t e h s c = ap (with_tree kernel_budget E x) (known m o t e h) ∙ ap (with_sort E x (tree_of m t)) c
 
-  pub unsorted : (m : Terms) (o : Option TermId) (t : TermId) → o ≡ Some t → IsMeant m o r → (f : faults.Fault) → Comes (λ n. comes_to (sort_of E n [] (tree_of m t))) (Err f)
-      → Comes (λ n. with_tree n E x r) (Err f)
+  pub unsorted : (m : Terms) (o : Option TermId) (t : TermId) → o ≡ Some t → IsMeant m o r → (f : faults.Fault) → comes_to kernel_budget (λ n. sort_of E n [] (tree_of m t)) ≡ Err f
+      → with_tree kernel_budget E x r ≡ Err f
   unfolding with_tree with_sort
-  unsorted m o t e h f c = comes_by _ _ (Err f) _ (λ n d. ap (with_tree n E x) (known m o t e h) ∙ ap (with_sort E x (tree_of m t)) d) c
+  unsorted m o t e h f c = ap (with_tree kernel_budget E x) (known m o t e h) ∙ ap (with_sort E x (tree_of m t)) c
 
 -- `Theorem`, behind the look whether its name is new
-module _ (old m new : Terms) (ps : List (NameId × Constant)) (x : NameId) (r : Option Tree) (o : Option TermId) (t : TermId) (g1 : Grows old m) (g2 : Grows m new) (plain : IsPlainEnv old ps) (has : HasName old x) (e : o ≡ Some t) (meant : IsMeant m o r) where
+module _ (old m new : Terms) (ps : List (NameId × Declared)) (x : NameId) (r : Option Tree) (o : Option TermId) (t : TermId) (g1 : Grows old m) (g2 : Grows m new) (plain : IsEnv old ps) (has : HasName old x) (e : o ≡ Some t) (meant : IsMeant m o r) where
   pub state_ok :
-      IfSome o (IsStatement m) → (s : Universe) × Comes (λ n. comes_to (sort_of (env_of m ps) n [] (tree_of m t))) (Ok s)
-      → (HasName new x × IsStatement new t) × Comes (λ n. with_tree n (env_of old ps) (text_of old x) r) (Ok ([], state_of new ps (Place.Stated x t)))
+      IfSome o (IsStatement m) → (s : Universe) × (comes_to kernel_budget (λ n. sort_of (env_of m ps) n [] (tree_of m t)) ≡ Ok s)
+      → (HasName new x × IsStatement new t) × (with_tree kernel_budget (env_of old ps) (text_of old x) r ≡ Ok ([], state_of new ps (Place.Stated x t)))
   state_ok st c =
       let is : IsStatement m t = along (λ z. IfSome z (IsStatement m)) e st in
       let g : Grows old new = Grows-trans old m new g1 g2 in
       let there : env_of m ps ≡ env_of old ps = env_of-grown old m ps g1 plain in (
         (omega (arith, g.names), IsStatement-grown m new t g2 is),
-        along (λ z. Comes (λ n. with_tree n (env_of old ps) (text_of old x) r) (Ok ([], z)))
+        along (λ z. with_tree kernel_budget (env_of old ps) (text_of old x) r ≡ Ok ([], z))
             (ap₂ (λ y w. record { env = y; place = w }) (sym (env_of-grown old new ps g plain)) (ap₂ stated (sym (g.text x has)) (sym (g2.tree t is.has))))
-            (sorted (env_of old ps) (text_of old x) r m o t e meant c.0 (along (λ z. Comes (λ n. comes_to (sort_of z n [] (tree_of m t))) (Ok c.0)) there c.1)),
+            (sorted (env_of old ps) (text_of old x) r m o t e meant c.0 (along (λ z. comes_to kernel_budget (λ n. sort_of z n [] (tree_of m t)) ≡ Ok c.0) there c.1)),
       )
 
-  pub state_err : (k : SentenceFault) → Tells new k (λ f. Comes (λ n. comes_to (sort_of (env_of m ps) n [] (tree_of m t))) (Err f)) → Tells new k (λ f. Comes (λ n. with_tree n (env_of old ps) (text_of old x) r) (Err f))
+  pub state_err : (k : SentenceFault) → Tells new k (λ f. comes_to kernel_budget (λ n. sort_of (env_of m ps) n [] (tree_of m t)) ≡ Err f) → Tells new k (λ f. with_tree kernel_budget (env_of old ps) (text_of old x) r ≡ Err f)
   state_err k h =
       tells_weaker new k _ _
-      (λ f c. unsorted (env_of old ps) (text_of old x) r m o t e meant f (along (λ z. Comes (λ n. comes_to (sort_of z n [] (tree_of m t))) (Err f)) (env_of-grown old m ps g1 plain) c)) h
+      (λ f c. unsorted (env_of old ps) (text_of old x) r m o t e meant f (along (λ z. comes_to kernel_budget (λ n. sort_of z n [] (tree_of m t)) ≡ Err f) (env_of-grown old m ps g1 plain) c)) h
 
 -- a sentence out of its place
 module _ (bank : Terms) (E : Env) (place : Place) where
-  pub theorem_misplaced : (x : Name) (A : Surface) → (place ≡ Place.Outside → ⊥) → Comes (λ n. doing n E (place_of bank place) (theorem x A)) (Err faults.not_built)
+  pub theorem_misplaced : (x : Name) (A : Surface) → (place ≡ Place.Outside → ⊥) → doing kernel_budget E (place_of bank place) (theorem x A) ≡ Err faults.not_built
   unfolding doing
   theorem_misplaced x A h = go place h
     where
-      go : (p : Place) → (p ≡ Place.Outside → ⊥) → Comes (λ n. doing n E (place_of bank p) (theorem x A)) (Err faults.not_built)
+      go : (p : Place) → (p ≡ Place.Outside → ⊥) → doing kernel_budget E (place_of bank p) (theorem x A) ≡ Err faults.not_built
       go Place.Outside k = absurd (k refl)
-      go (Place.Stated y B) k = comes_always _ _ (λ n. refl)
-      go (Place.Begun y B) k = comes_always _ _ (λ n. refl)
-      go (Place.Worked y B p) k = comes_always _ _ (λ n. refl)
+      go (Place.Stated y B) k = refl
+      go (Place.Begun y B) k = refl
+      go (Place.Worked y B p) k = refl
 
-  pub tactics_misplaced : (ss : List Tactic) → ((y : NameId) (B : TermId) → place ≡ Place.Begun y B → ⊥) → Comes (λ n. doing n E (place_of bank place) (tactics ss)) (Err faults.not_built)
+  pub tactics_misplaced : (ss : List Tactic) → ((y : NameId) (B : TermId) → place ≡ Place.Begun y B → ⊥) → doing kernel_budget E (place_of bank place) (tactics ss) ≡ Err faults.not_built
   unfolding doing
   tactics_misplaced ss h = go place h
     where
-      go : (p : Place) → ((y : NameId) (B : TermId) → p ≡ Place.Begun y B → ⊥) → Comes (λ n. doing n E (place_of bank p) (tactics ss)) (Err faults.not_built)
-      go Place.Outside k = comes_always _ _ (λ n. refl)
-      go (Place.Stated y B) k = comes_always _ _ (λ n. refl)
+      go : (p : Place) → ((y : NameId) (B : TermId) → p ≡ Place.Begun y B → ⊥) → doing kernel_budget E (place_of bank p) (tactics ss) ≡ Err faults.not_built
+      go Place.Outside k = refl
+      go (Place.Stated y B) k = refl
       go (Place.Begun y B) k = absurd (k y B refl)
-      go (Place.Worked y B p) k = comes_always _ _ (λ n. refl)
+      go (Place.Worked y B p) k = refl
 
-  pub qed_misplaced : ((y : NameId) (B : TermId) (p : Proof) → place ≡ Place.Worked y B p → ⊥) → Comes (λ n. doing n E (place_of bank place) qed) (Err faults.not_built)
+  pub qed_misplaced : ((y : NameId) (B : TermId) (p : Proof) → place ≡ Place.Worked y B p → ⊥) → doing kernel_budget E (place_of bank place) qed ≡ Err faults.not_built
   unfolding doing
   qed_misplaced h = go place h
     where
-      go : (p : Place) → ((y : NameId) (B : TermId) (q : Proof) → p ≡ Place.Worked y B q → ⊥) → Comes (λ n. doing n E (place_of bank p) qed) (Err faults.not_built)
-      go Place.Outside k = comes_always _ _ (λ n. refl)
-      go (Place.Stated y B) k = comes_always _ _ (λ n. refl)
-      go (Place.Begun y B) k = comes_always _ _ (λ n. refl)
+      go : (p : Place) → ((y : NameId) (B : TermId) (q : Proof) → p ≡ Place.Worked y B q → ⊥) → doing kernel_budget E (place_of bank p) qed ≡ Err faults.not_built
+      go Place.Outside k = refl
+      go (Place.Stated y B) k = refl
+      go (Place.Begun y B) k = refl
       go (Place.Worked y B p) k = absurd (k y B p refl)
 
   -- `Theorem` between theorems
   module _ (x : Name) (A : Surface) (is : place ≡ Place.Outside) where
-    pub theorem_taken : is_some (lookup E x) ≡ true → Comes (λ n. doing n E (place_of bank place) (theorem x A)) (Err faults.not_built)
+    pub theorem_taken : is_some (lookup E x) ≡ true → doing kernel_budget E (place_of bank place) (theorem x A) ≡ Err faults.not_built
     unfolding doing stating
-    theorem_taken t = comes_always _ _ (λ n. ap (λ p. doing n E (place_of bank p) (theorem x A)) is ∙ go n (lookup E x) t)
+    theorem_taken t = ap (λ p. doing kernel_budget E (place_of bank p) (theorem x A)) is ∙ go (lookup E x) t
       where
-        go : (n : ℕ) (o : Option Entry) → is_some o ≡ true → ◌≡◌ {A = Result (List ℕ × State) faults.Fault} (elim o [ Some e ↦ Err faults.not_built | None ↦ with_tree n E x (resolved E [] A) ]) (Err faults.not_built)
-        go n (Some e) k = refl
-        go n None k = cc
+        go : (o : Option Entry) → is_some o ≡ true → ◌≡◌ {A = Result (List ℕ × State) faults.Fault} (elim o [ Some e ↦ Err faults.not_built | None ↦ with_tree kernel_budget E x (resolved E [] A) ]) (Err faults.not_built)
+        go (Some e) k = refl
+        go None k = cc
 
-    pub theorem_new : is_some (lookup E x) ≡ false → (n : ℕ) → doing n E (place_of bank place) (theorem x A) ≡ with_tree n E x (resolved E [] A)
+    pub theorem_new : is_some (lookup E x) ≡ false → doing kernel_budget E (place_of bank place) (theorem x A) ≡ with_tree kernel_budget E x (resolved E [] A)
     unfolding doing stating
-    theorem_new t n = ap (λ p. doing n E (place_of bank p) (theorem x A)) is ∙ go (lookup E x) t
+    theorem_new t = ap (λ p. doing kernel_budget E (place_of bank p) (theorem x A)) is ∙ go (lookup E x) t
       where
-        go : (o : Option Entry) → is_some o ≡ false → (elim o [ Some e ↦ Err faults.not_built | None ↦ with_tree n E x (resolved E [] A) ]) ≡ with_tree n E x (resolved E [] A)
+        go : (o : Option Entry) → is_some o ≡ false → (elim o [ Some e ↦ Err faults.not_built | None ↦ with_tree kernel_budget E x (resolved E [] A) ]) ≡ with_tree kernel_budget E x (resolved E [] A)
         go (Some e) k = cc
         go None k = refl
 
 -- the same work, written in another way
-pub moves_by : (bank : Terms) (ps : List (NameId × Constant)) (r : Result Place SentenceFault) (f h : ℕ → Result (List ℕ × State) faults.Fault) → ((n : ℕ) → h n ≡ f n) → Moves bank ps r f → Moves bank ps r h
-moves_by bank ps (Ok p) f h e m = (m.0, comes_by f h _ _ (λ n k. e n ∙ k) m.1)
-moves_by bank ps (Err k) f h e m = tells_weaker bank k _ _ (λ g c. comes_by f h _ _ (λ n j. e n ∙ j) c) m
+pub moves_by : (bank : Terms) (ps : List (NameId × Declared)) (r : Result Place SentenceFault) (f h : Result (List ℕ × State) faults.Fault) → h ≡ f → Moves bank ps r f → Moves bank ps r h
+moves_by bank ps r f h e m = along (Moves bank ps r) (sym e) m
 
-pub runs_by : {S : Type 0} (bytes : S → List ℕ) (bank : Terms) (ps : List (NameId × Constant)) (place : Place) (r : Result S SentenceFault) (f h : ℕ → Result (List ℕ × State) faults.Fault) → ((n : ℕ) → h n ≡ f n) → Runs bytes bank ps place r f → Runs bytes bank ps place r h
-runs_by bytes bank ps place (Ok s) f h e m = comes_by f h _ _ (λ n k. e n ∙ k) m
-runs_by bytes bank ps place (Err k) f h e m = tells_weaker bank k _ _ (λ g c. comes_by f h _ _ (λ n j. e n ∙ j) c) m
+pub runs_by : {S : Type 0} (bytes : S → List ℕ) (bank : Terms) (ps : List (NameId × Declared)) (place : Place) (r : Result S SentenceFault) (f h : Result (List ℕ × State) faults.Fault) → h ≡ f → Runs bytes bank ps place r f → Runs bytes bank ps place r h
+runs_by bytes bank ps place r f h e m = along (Runs bytes bank ps place r) (sym e) m
 
 -- `Theorem` with a new name
 pub theorem_goes :
-    (old m : Terms) (ps : List (NameId × Constant)) (place : Place) (x : NameId) (text : Name) (A : Surface) → Grows old m → IsPlainEnv old ps → IsName m x text → place ≡ Place.Outside
+    (old m : Terms) (ps : List (NameId × Declared)) (place : Place) (x : NameId) (text : Name) (A : Surface) → Grows old m → IsEnv old ps → IsName m x text → place ≡ Place.Outside
     → is_some (lookup (env_of m ps) (text_of m x)) ≡ false
-    → (n : ℕ) → doing n (env_of old ps) (place_of old place) (theorem text A) ≡ with_tree n (env_of m ps) (text_of m x) (resolved (env_of m ps) [] A)
-theorem_goes old m ps place x text A g plain named is free n =
+    → doing kernel_budget (env_of old ps) (place_of old place) (theorem text A) ≡ with_tree kernel_budget (env_of m ps) (text_of m x) (resolved (env_of m ps) [] A)
+theorem_goes old m ps place x text A g plain named is free =
     let there : env_of m ps ≡ env_of old ps = env_of-grown old m ps g plain in
-    theorem_new old (env_of old ps) place text A is (ap is_some (ap₂ lookup (sym there) (sym named.is)) ∙ free) n
-    ∙ ap₂ (λ e z. with_tree n e z (resolved e [] A)) (sym there) (sym named.is)
+    theorem_new old (env_of old ps) place text A is (ap is_some (ap₂ lookup (sym there) (sym named.is)) ∙ free)
+    ∙ ap₂ (λ e z. with_tree kernel_budget e z (resolved e [] A)) (sym there) (sym named.is)
 
 pub theorem_stops :
-    (old m : Terms) (ps : List (NameId × Constant)) (place : Place) (x : NameId) (text : Name) (A : Surface) → Grows old m → IsPlainEnv old ps → IsName m x text → place ≡ Place.Outside
-    → is_some (lookup (env_of m ps) (text_of m x)) ≡ true → Comes (λ n. doing n (env_of old ps) (place_of old place) (theorem text A)) (Err faults.not_built)
+    (old m : Terms) (ps : List (NameId × Declared)) (place : Place) (x : NameId) (text : Name) (A : Surface) → Grows old m → IsEnv old ps → IsName m x text → place ≡ Place.Outside
+    → is_some (lookup (env_of m ps) (text_of m x)) ≡ true → doing kernel_budget (env_of old ps) (place_of old place) (theorem text A) ≡ Err faults.not_built
 theorem_stops old m ps place x text A g plain named is taken =
     theorem_taken old (env_of old ps) place text A is (ap is_some (ap₂ lookup (sym (env_of-grown old m ps g plain)) (sym named.is)) ∙ taken)
 
 -- tactics behind `Proof`
-module _ (old new : Terms) (ps : List (NameId × Constant)) (place : Place) (x : NameId) (A : TermId) (ss : List Tactic) (g : Grows old new) (plain : IsPlainEnv old ps) (is : place ≡ Place.Begun x A) (stands : IsPlace old place) where
+module _ (old new : Terms) (ps : List (NameId × Declared)) (place : Place) (x : NameId) (A : TermId) (ss : List Tactic) (g : Grows old new) (plain : IsEnv old ps) (is : place ≡ Place.Begun x A) (stands : IsPlace old place) where
   begun_is : HasName old x × IsStatement old A
   begun_is = along (IsPlace old) is stands
 
-  worked_at : (n : ℕ) → doing n (env_of old ps) (place_of old place) (tactics ss) ≡ proving (env_of old ps) (text_of old x) (tree_of old A) (after_tactics (env_of old ps) (steps.goal [] (tree_of old A)) ss)
+  worked_at : doing kernel_budget (env_of old ps) (place_of old place) (tactics ss) ≡ proving (env_of old ps) (text_of old x) (tree_of old A) (after_tactics (env_of old ps) (steps.goal [] (tree_of old A)) ss)
   unfolding doing
-  worked_at n = ap (λ p. doing n (env_of old ps) (place_of old p) (tactics ss)) is
+  worked_at = ap (λ p. doing kernel_budget (env_of old ps) (place_of old p) (tactics ss)) is
 
   pub work_ok :
       (p : Proof) → Proves new (Ok p) (after_tactics (env_of old ps) (steps.goal [] (tree_of old A)) ss) → Reaches (tree_of new A) (proof_of new p)
-      → IsPlace new (Place.Worked x A p) × Comes (λ n. doing n (env_of old ps) (place_of old place) (tactics ss)) (Ok ([], state_of new ps (Place.Worked x A p)))
+      → IsPlace new (Place.Worked x A p) × (doing kernel_budget (env_of old ps) (place_of old place) (tactics ss) ≡ Ok ([], state_of new ps (Place.Worked x A p)))
   unfolding proving
   work_ok p h r =
       let has = begun_is in (
         (omega (arith, g.names, has.0), IsStatement-grown old new A g has.1, h.0, r),
-        comes_always _ _ (λ n.
-            worked_at n ∙ ap (proving (env_of old ps) (text_of old x) (tree_of old A)) h.1
-            ∙ ap (λ z. Ok ([], z)) (ap₂ (λ y w. record { env = y; place = w }) (sym (env_of-grown old new ps g plain)) (ap₂ (λ a b. worked a b (proof_of new p)) (sym (g.text x has.0)) (sym (g.tree A has.1.has))))),
+        worked_at ∙ ap (proving (env_of old ps) (text_of old x) (tree_of old A)) h.1
+            ∙ ap (λ z. Ok ([], z)) (ap₂ (λ y w. record { env = y; place = w }) (sym (env_of-grown old new ps g plain)) (ap₂ (λ a b. worked a b (proof_of new p)) (sym (g.text x has.0)) (sym (g.tree A has.1.has)))),
       )
 
-  pub work_err : (k : SentenceFault) → Proves new (Err k) (after_tactics (env_of old ps) (steps.goal [] (tree_of old A)) ss) → Tells new k (λ f. Comes (λ n. doing n (env_of old ps) (place_of old place) (tactics ss)) (Err f))
+  pub work_err : (k : SentenceFault) → Proves new (Err k) (after_tactics (env_of old ps) (steps.goal [] (tree_of old A)) ss) → Tells new k (λ f. doing kernel_budget (env_of old ps) (place_of old place) (tactics ss) ≡ Err f)
   unfolding proving
-  work_err k h = tells_weaker new k _ _ (λ f e. comes_always _ _ (λ n. worked_at n ∙ ap (proving (env_of old ps) (text_of old x) (tree_of old A)) e)) h
+  work_err k h = tells_weaker new k _ _ (λ f e. worked_at ∙ ap (proving (env_of old ps) (text_of old x) (tree_of old A)) e) h
 
 -- `Qed`
 module _ (bank : Terms) (E : Env) (place : Place) (x : NameId) (A : TermId) (p : Proof) (is : place ≡ Place.Worked x A p) where
-  pub qed_open : (hs : List Hypothesis) (T : TermId) → p ≡ Proof.Goal hs T → Comes (λ n. doing n E (place_of bank place) qed) (Err (faults.open_goals 1))
+  pub qed_open : (hs : List Hypothesis) (T : TermId) → p ≡ Proof.Goal hs T → doing kernel_budget E (place_of bank place) qed ≡ Err (faults.open_goals 1)
   unfolding doing closing_proof
-  qed_open hs T e = comes_always _ _ (λ n. ap (λ q. doing n E (place_of bank q) qed) (is ∙ ap (Place.Worked x A) e))
+  qed_open hs T e = ap (λ q. doing kernel_budget E (place_of bank q) qed) (is ∙ ap (Place.Worked x A) e)
 
-  pub qed_goes : (t : TermId) → p ≡ Proof.Finished t → (n : ℕ) → doing n E (place_of bank place) qed ≡ declared (text_of bank x) (comes_to (declare_constant E n (text_of bank x) (tree_of bank A) (tree_of bank t) true))
+  pub qed_goes : (t : TermId) → p ≡ Proof.Finished t → doing kernel_budget E (place_of bank place) qed ≡ declared (text_of bank x) (comes_to kernel_budget (λ n. declare_constant E n (text_of bank x) (tree_of bank A) (tree_of bank t) true))
   unfolding doing closing_proof
-  qed_goes t e n = ap (λ q. doing n E (place_of bank q) qed) (is ∙ ap (Place.Worked x A) e)
+  qed_goes t e = ap (λ q. doing kernel_budget E (place_of bank q) qed) (is ∙ ap (Place.Worked x A) e)
 
 -- a declaration
 pub declared_ok :
-    (x : Name) (f : ℕ → Kernel Env) (new : Terms) (qs : List (NameId × Constant)) (text : List ℕ) → text ≡ defined x → EndsAs f (Ok (env_of new qs))
-    → Comes (λ n. declared x (comes_to (f n))) (Ok (text, state_of new qs Place.Outside))
+    (x : Name) (f : ℕ → Kernel Env) (left : ℕ) (new : Terms) (qs : List (NameId × Declared)) (text : List ℕ) → text ≡ defined x → ComesTo f kernel_budget (done (env_of new qs) left)
+    → declared x (comes_to kernel_budget f) ≡ Ok (text, state_of new qs Place.Outside)
 unfolding declared
-declared_ok x f new qs text e h = comes_by _ _ (Ok (env_of new qs)) _ (λ n k. ap (declared x) k ∙ ap (λ z. Ok (z, state_of new qs Place.Outside)) (sym e)) (ends_comes f (env_of new qs) h)
+declared_ok x f left new qs text e h = ap (declared x) (comes_ok f kernel_budget left (env_of new qs) h) ∙ ap (λ z. Ok (z, state_of new qs Place.Outside)) (sym e)
 
-pub declared_err : (x : Name) (f : ℕ → Kernel Env) (new : Terms) (e : KernelFault) (k : SentenceFault) → k ≡ told_of e → Refuses new e f → Tells new k (λ g. Comes (λ n. declared x (comes_to (f n))) (Err g))
+pub declared_err : (x : Name) (f : ℕ → Kernel Env) (left : ℕ) (new : Terms) (e : KernelFault) (k : SentenceFault) → k ≡ told_of e → Refuses new e f kernel_budget left → Tells new k (λ g. declared x (comes_to kernel_budget f) ≡ Err g)
 unfolding declared
-declared_err x f new e k s h =
-    along (λ z. Tells new z (λ g. Comes (λ n. declared x (comes_to (f n))) (Err g))) (sym s)
-    (refuses_tells new e f (λ g. Comes (λ n. declared x (comes_to (f n))) (Err g)) (λ g c. comes_by _ _ (Err g) _ (λ n j. ap (declared x) j) c) h)
-
-pub IsPlainEnv-push : (bank : Terms) (ps qs : List (NameId × Constant)) (p : NameId × Constant) → qs ≡ ps ++ p ∷ [] → IsPlainEnv bank ps → IsPlainConstant bank p → IsPlainEnv bank qs
-IsPlainEnv-push bank ps qs p e h k = along (IsPlainEnv bank) (sym e) (go ps h)
-  where
-    go : (rs : List (NameId × Constant)) → IsPlainEnv bank rs → IsPlainEnv bank (rs ++ p ∷ [])
-    go [] j = (k, tt)
-    go (r ∷ rs) j = (j.0, go rs j.1)
+declared_err x f left new e k s h =
+    along (λ z. Tells new z (λ g. declared x (comes_to kernel_budget f) ≡ Err g)) (sym s)
+    (refuses_tells f kernel_budget left new e (λ g. declared x (comes_to kernel_budget f) ≡ Err g) (λ g c. ap (declared x) c) h)
 
 -- `Proof`
-pub proof_goes : (bank : Terms) (ps : List (NameId × Constant)) (place next : Place) (text : List ℕ) → Some next ≡ begun_of place → text ≡ [] → Comes (λ n. doing n (env_of bank ps) (place_of bank place) proof) (Ok (text, state_of bank ps next))
+pub proof_goes : (bank : Terms) (ps : List (NameId × Declared)) (place next : Place) (text : List ℕ) → Some next ≡ begun_of place → text ≡ [] → doing kernel_budget (env_of bank ps) (place_of bank place) proof ≡ Ok (text, state_of bank ps next)
 unfolding doing
 proof_goes bank ps Place.Outside next text e t = absurd cc
 proof_goes bank ps (Place.Stated x A) next text e t =
     let same : next ≡ Place.Begun x A = cc in
-    comes_always _ _ (λ n. ap₂ (λ z p. Ok (z, state_of bank ps p)) (sym t) (sym same))
+    ap₂ (λ z p. Ok (z, state_of bank ps p)) (sym t) (sym same)
 proof_goes bank ps (Place.Begun x A) next text e t = absurd cc
 proof_goes bank ps (Place.Worked x A p) next text e t = absurd cc
 
-pub proof_misplaced : (bank : Terms) (E : Env) (place : Place) → None ≡ begun_of place → Comes (λ n. doing n E (place_of bank place) proof) (Err faults.not_built)
+pub proof_misplaced : (bank : Terms) (E : Env) (place : Place) → None ≡ begun_of place → doing kernel_budget E (place_of bank place) proof ≡ Err faults.not_built
 unfolding doing
-proof_misplaced bank E Place.Outside e = comes_always _ _ (λ n. refl)
+proof_misplaced bank E Place.Outside e = refl
 proof_misplaced bank E (Place.Stated x A) e = absurd cc
-proof_misplaced bank E (Place.Begun x A) e = comes_always _ _ (λ n. refl)
-proof_misplaced bank E (Place.Worked x A p) e = comes_always _ _ (λ n. refl)
+proof_misplaced bank E (Place.Begun x A) e = refl
+proof_misplaced bank E (Place.Worked x A p) e = refl
 
 -- a place of a bank that has grown
 module _ (old new : Terms) (g : Grows old new) where
@@ -262,14 +240,8 @@ module _ (old new : Terms) (g : Grows old new) where
     along (λ z. Reaches z (proof_of new p)) (sym (g.tree A h.1.has)) (along (Reaches (tree_of old A)) (sym (proof_of-grown p h.2)) h.3),
   )
 
-  pub IsSession-grown : (ps qs : List (NameId × Constant)) (place : Place) → qs ≡ ps → IsSession old ps place → IsSession new qs place
+  pub IsSession-grown : (ps qs : List (NameId × Declared)) (place : Place) → qs ≡ ps → IsSession old ps place → IsSession new qs place
   IsSession-grown ps qs place e s = record {
-    plain = along (IsPlainEnv new) (sym e) (IsPlainEnv-grown old new ps g s.plain);
+    declared = along (IsEnv new) (sym e) (IsEnv-grown old new ps g s.declared);
     stands = IsPlace-grown place s.stands;
   }
-
--- where a session's declarations are derived, they are so after a sentence that is accepted
-pub runs_derived :
-    {S : Type 0} (bytes : S → List ℕ) (bank : Terms) (qs : List (NameId × Constant)) (next : Place) (text : S) (E : Env) (p : sentences.Place) (x : Sentence)
-    → Runs bytes bank qs next (Ok text) (λ n. doing n E p x) → DerivedEnv E → DerivedEnv (env_of bank qs)
-runs_derived bytes bank qs next text E p x c d = along LeavesDerived (c.gives c.enough (omega arith)) (doing_derived c.enough E p x d)

@@ -10,9 +10,8 @@ use Rattle.lq_terms.specs.Terms.{Terms, HasName, HasTerm, IsTerm, IsName, Grows,
 use Rattle.lq_terms.proofs.Growth.{Grows-trans, IsName-grown}
 use Rattle.lq_output.specs.Grammar.{Surface}
 use Rattle.lq_output.specs.Steps.{product_of, resolved}
-use Rattle.lq_kernel.specs.declared.environment.Constant.{Constant}
-use Rattle.lq_kernel.specs.Environments.{env_of}
-use Rattle.lq_kernel.specs.Plain.{IsPlainEnv}
+use Rattle.lq_env.specs.declared.environment.Declared.{Declared}
+use Rattle.lq_env.specs.Environments.{IsEnv, env_of}
 use Rattle.lq_script.specs.Scopes.{scope_of, IsMeant}
 use Rattle.lq_script.proofs.Grown.{env_of-grown, scope_of-grown}
 use Rattle.lq_script.proofs.Meanings.{no_kind, no_rest, is_product}
@@ -23,7 +22,7 @@ meant_none bank o r e h = along (λ z. IsMeant bank z r) e h
 meant_some : (bank : Terms) (o : Option TermId) (r : Option Tree) (t : TermId) → o ≡ Some t → IsMeant bank o r → HasTerm bank t × (r ≡ Some (tree_of bank t))
 meant_some bank o r t e h = along (λ z. IsMeant bank z r) e h
 
-module _ (old m1 m2 : Terms) (ps : List (NameId × Constant)) (xs ys : List NameId) (x : NameId) (text : Name) (g1 : Grows old m1) (g2 : Grows m1 m2) (env : IsPlainEnv old ps) (names : AllByRecursion (HasName old) xs) where
+module _ (old m1 m2 : Terms) (ps : List (NameId × Declared)) (xs ys : List NameId) (x : NameId) (text : Name) (g1 : Grows old m1) (g2 : Grows m1 m2) (env : IsEnv old ps) (names : AllByRecursion (HasName old) xs) where
   kind_same : (S : Surface) → resolved (env_of m1 ps) (scope_of m1 xs) S ≡ resolved (env_of old ps) (scope_of old xs) S
   kind_same S = ap₂ (λ e b. resolved e b S) (env_of-grown old m1 ps g1 env) (scope_of-grown old m1 xs g1 names)
 

@@ -15,9 +15,8 @@ use Rattle.lq_terms.specs.Terms.{Terms, HasName, IsName, IsPart, EachPart, Grows
 use Rattle.lq_terms.specs.Contexts.{context_of, HasContext}
 use Rattle.lq_calculus.specs.Declarations.{Env, Entry, lookup, constant, family, arity, constructor, eliminator}
 use Rattle.lq_calculus.specs.Contraction.{hypothesis}
-use Rattle.lq_kernel.specs.declared.environment.Constant.{Constant}
-use Rattle.lq_kernel.specs.Environments.{env_of}
-use Rattle.lq_kernel.specs.Plain.{IsPlain, IsPlainEnv}
+use Rattle.lq_env.specs.declared.environment.Declared.{Declared}
+use Rattle.lq_env.specs.Environments.{IsEnv, env_of}
 use Rattle.lq_output.specs.Grammar.{Tactic, intro, exact}
 use Rattle.lq_output.specs.Faults.{Fault, not_built, differs}
 use Rattle.lq_output.specs.Alike.{alike}
@@ -85,20 +84,6 @@ pub tactics_end : {S : Type 0} (f : S → Tactic) (env : Env) (ss : List S) (i :
 unfolding after_tactics
 tactics_end f env ss i p l = ap (λ zs. after_tactics env p (map f zs)) (drop_all i ss l)
 
-pub simple_plain : (t : Tree) → IsSimple [] t → IsPlain t
-simple_plain (Tree.Rel i) s = tt
-simple_plain (Tree.Var x) s = tt
-simple_plain (Tree.Sort u) s = tt
-simple_plain (Tree.Prod x a b) s = (simple_plain a s.0, simple_plain b s.1)
-simple_plain (Tree.Const c) s = tt
-simple_plain _ s = absurd s
-
--- the abstractions round a leaf are plain
-pub abstraction_plain : (xs : List Name) (A t : Tree) → IsSimple [] A → IsPlain t → IsPlain (abstraction xs A t)
-abstraction_plain [] A t s h = h
-abstraction_plain (x ∷ xs) (Tree.Prod y kind rest) t s h = (simple_plain kind s.0, abstraction_plain xs rest t s.1 h)
-abstraction_plain (x ∷ xs) _ t s h = h
-
 -- `intro` on a conclusion that is no product
 pub no_product : (bank : Terms) (node : Node) (x : Name) (g : Context) → ((y : NameId) (k r : TermId) → node ≡ Node.Prod y k r → ⊥) → introduced x g (node_tree bank node) ≡ Err not_built
 unfolding introduced
@@ -126,10 +111,10 @@ module _ (A : Tree) (s : IsSimple [] A) (w : Within 0 A) where
       go false n p = let same : goal (under g x kind) (opened x rest) ≡ q = cc in along (Reaches A) same (one_more g x y kind rest i n)
   intro_reaches x g _ q i e = absurd cc
 
-  leaf_reaches : (g : Context) (T t L : Tree) → Introduced A g T → abstracted g t ≡ abstraction (names_of g) A L → IsPlain L → Within (length (names_of g)) L → Reaches A (finished (abstracted g t))
-  leaf_reaches g T t L i e p b =
-      along (λ z. IsPlain z × Within 0 z) (sym e)
-      (abstraction_plain (names_of g) A L s p, abstraction_within 0 (names_of g) A (closes_at 0 (names_of g) T) L (introduced_rest i s) w (along (λ n. Within n L) (sym (zero-add (length (names_of g)))) b))
+  leaf_reaches : (g : Context) (T t L : Tree) → Introduced A g T → abstracted g t ≡ abstraction (names_of g) A L → Within (length (names_of g)) L → Reaches A (finished (abstracted g t))
+  leaf_reaches g T t L i e b =
+      along (Within 0) (sym e)
+      (abstraction_within 0 (names_of g) A (closes_at 0 (names_of g) T) L (introduced_rest i s) w (along (λ n. Within n L) (sym (zero-add (length (names_of g)))) b))
 
   var_reaches : (g : Context) (T : Tree) (x : Name) (h : TreeHypothesis) → Introduced A g T → hypothesis g x ≡ Some h → Reaches A (finished (abstracted g (Tree.Var x)))
   var_reaches g T x h i e = go (binder_of (names_of g) x) refl
@@ -137,11 +122,11 @@ module _ (A : Tree) (s : IsSimple [] A) (w : Within 0 A) where
       go : (o : Option ℕ) → binder_of (names_of g) x ≡ o → Reaches A (finished (abstracted g (Tree.Var x)))
       go None at = absurd (let none : hypothesis g x ≡ None = no_hypothesis g x at in cc)
       go (Some k) at =
-          leaf_reaches g T (Tree.Var x) (Tree.Rel (length g - 1 - k)) i (var_abstracted i s x k at) tt
+          leaf_reaches g T (Tree.Var x) (Tree.Rel (length g - 1 - k)) i (var_abstracted i s x k at)
           (omega (arith, place_within (names_of g) x k at, length-map g (λ h. h.name)))
 
   const_reaches : (g : Context) (T : Tree) (x : Name) → Introduced A g T → Reaches A (finished (abstracted g (Tree.Const x)))
-  const_reaches g T x i = leaf_reaches g T (Tree.Const x) (Tree.Const x) i (const_abstracted i s x) tt tt
+  const_reaches g T x i = leaf_reaches g T (Tree.Const x) (Tree.Const x) i (const_abstracted i s x) tt
 
   -- the term that a name stands for
   known_reaches : (env : Env) (g : Context) (T : Tree) (x : Name) (f : Tree × Tree) → Introduced A g T → known_as env g x ≡ Some f → Reaches A (finished (abstracted g f.0))
@@ -180,6 +165,6 @@ module _ (A : Tree) (s : IsSimple [] A) (w : Within 0 A) where
 
 -- a tactic in a bank that has grown
 pub tactic_same :
-    (old m : Terms) (ps : List (NameId × Constant)) → Grows old m → IsPlainEnv old ps → (p : Proof) (t u : Written) → t ≡ u
+    (old m : Terms) (ps : List (NameId × Declared)) → Grows old m → IsEnv old ps → (p : Proof) (t u : Written) → t ≡ u
     → after_tactic (env_of old ps) p (plain_tactic u) ≡ after_tactic (env_of m ps) p (plain_tactic t)
 tactic_same old m ps g env p t u e = ap₂ (λ z w. after_tactic z p (plain_tactic w)) (sym (env_of-grown old m ps g env)) (sym e)

@@ -5,9 +5,9 @@ use Rattle.lq_output.specs.declared.Status.{Status}
 use Rattle.lq_output.specs.Script.{cut, is_blank}
 use Rattle.lq_output.specs.Grammar.{behind_blanks}
 use Rattle.lq_output.specs.Faults.{not_built}
-use Rattle.lq_output.specs.Sentences.{State, sentence}
-use Rattle.lq_output.specs.Output.{Output, start, most_bytes, too_long, refused, behind, at_end, all_blank, is_outside, Eventually}
-use Rattle.lq_output.proofs.RunLaws.{RunsOn, run_of, eventually_map, eventually_both, runs_from_start, accepted_more, refused_here, ends_here, output_short}
+use Rattle.lq_output.specs.Sentences.{State}
+use Rattle.lq_output.specs.Output.{Output, start, most_bytes, too_long, refused, behind, at_end, all_blank, is_outside, kernel_budget}
+use Rattle.lq_output.proofs.RunLaws.{RunsOn, runs_from_start, accepted_more, refused_here, ends_here, output_short}
 use Rattle.lq_script.specs.declared.script.Answer.{Answer}
 use Rattle.lq_script.specs.declared.session.Session.{Session}
 use Rattle.lq_script.specs.Answers.{as_output, IsOutputOf}
@@ -32,28 +32,25 @@ turn_goes false old new number text before after e t = absurd cc
 
 -- a script of too many bytes
 pub long_answer : (bytes : List ℕ) (a : Answer) → most_bytes < length bytes → too_long ≡ as_output a → IsOutputOf bytes a
-long_answer bytes a l e = (0, λ n h. output_long n bytes (lt-ltb most_bytes (length bytes) l) ∙ e)
+long_answer bytes a l e = output_long kernel_budget bytes (lt-ltb most_bytes (length bytes) l) ∙ e
 
 -- another script
 pub short_answer : (bytes : List ℕ) (a : Answer) → length bytes ≤ most_bytes → IsRunOf bytes a → IsOutputOf bytes a
-short_answer bytes a l r = eventually_map _ _ (λ n e. output_short n bytes (le-ltb most_bytes (length bytes) l) ∙ e) r
+short_answer bytes a l r = output_short kernel_budget bytes (le-ltb most_bytes (length bytes) l) ∙ r
 
--- the run so far, for every bound that is large enough
+-- the run so far
 abbrev pub HasRun : List ℕ → List ℕ → State → ℕ → ℕ → Type 0
-HasRun bytes text s number from = Eventually (λ n. RunsOn n start bytes text s number from)
+HasRun bytes text s number from = RunsOn kernel_budget start bytes text s number from
 
 pub no_run : (bytes : List ℕ) → HasRun bytes [] start 1 0
-no_run bytes = (0, λ n h. runs_from_start n start bytes)
+no_run bytes = runs_from_start kernel_budget start bytes
 
 -- a sentence more
 pub run_more : (bytes text after : List ℕ) (old new : Session) (number from dot : ℕ) → HasRun bytes text (state_of old) number from → IsFirstEnd bytes from dot
     → Accepts old new (slice_range bytes from dot) text after → HasRun bytes after (state_of new) (number + 1) (dot + 1)
 run_more bytes text after old new number from dot r is a =
     subst (λ z. HasRun bytes z (state_of new) (number + 1) (dot + 1)) (sym a.there)
-    (eventually_both (λ n. RunsOn n start bytes text (state_of old) number from)
-    (λ n. sentence n (state_of old) (slice_range bytes from dot) ≡ _)
-    (λ n. RunsOn n start bytes (text ++ a.line) (state_of new) (number + 1) (dot + 1))
-    (λ n so_far e. accepted_more n start bytes text (state_of old) number from (slice_range bytes from dot) a.line (state_of new) (dot + 1) so_far is.first e) r a.accepted)
+    (accepted_more kernel_budget start bytes text (state_of old) number from (slice_range bytes from dot) a.line (state_of new) (dot + 1) r is.first a.accepted)
 
 -- a sentence that is refused
 pub run_refused : (bytes text after : List ℕ) (old : Session) (number from dot : ℕ) (a : Answer) → HasRun bytes text (state_of old) number from → IsFirstEnd bytes from dot
@@ -62,17 +59,12 @@ unfolding behind refused
 run_refused bytes text after old number from dot a r is f t s =
     let whole : behind text (refused number f.fault) ≡ as_output a =
     ap (λ z. let o : Output = record { text = z; status = Status.ScriptFault } in o) (sym f.there ∙ sym t) ∙ ap (λ z. let o : Output = record { text = a.text.items; status = z } in o) (sym s) in
-    eventually_both (λ n. RunsOn n start bytes text (state_of old) number from)
-    (λ n. sentence n (state_of old) (slice_range bytes from dot) ≡ _)
-    (λ n. run_of n start 1 (cut bytes) ≡ as_output a)
-    (λ n so_far e. refused_here n start bytes text (state_of old) number from (slice_range bytes from dot) (cut (drop (dot + 1) bytes)) f.fault so_far is.first e ∙ whole) r f.refusal
+    refused_here kernel_budget start bytes text (state_of old) number from (slice_range bytes from dot) (cut (drop (dot + 1) bytes)) f.fault r is.first f.refusal ∙ whole
 
 -- no sentence is left
 pub run_ended : (bytes text : List ℕ) (s : State) (number from : ℕ) (a : Answer) → HasRun bytes text s number from → cut (drop from bytes) ≡ record { sentences = []; rest = drop from bytes }
     → IsEndOf s number (drop from bytes) text a → IsRunOf bytes a
-run_ended bytes text s number from a r is e =
-    eventually_map (λ n. RunsOn n start bytes text s number from) (λ n. run_of n start 1 (cut bytes) ≡ as_output a)
-    (λ n so_far. ends_here n start bytes text s number from so_far is ∙ e) r
+run_ended bytes text s number from a r is e = ends_here kernel_budget start bytes text s number from r is ∙ e
 
 not_empty : (n : ℕ) → false ≡ (suc n == 0)
 not_empty n = grind arith

@@ -10,15 +10,14 @@ use Rattle.lq_calculus.specs.Declarations.{Env}
 use Rattle.lq_output.specs.Grammar.{Surface}
 use Rattle.lq_output.specs.Nesting.{nesting}
 use Rattle.lq_output.specs.Steps.{resolved}
-use Rattle.lq_kernel.specs.Plain.{IsPlainTerm}
+use Rattle.lq_kernel.specs.Closed.{IsScoped}
 use Rattle.lq_script.specs.Simple.{IsSimple}
 use Rattle.lq_script.specs.Scopes.{IsMeant}
 use Rattle.lq_script.specs.Proofs.{IsStatement}
 use Rattle.lq_script.proofs.Resolving.{statement_written}
-use Rattle.lq_script.proofs.Running.{simple_plain}
 
-pub statement_plain : (bank : Terms) (t : TermId) → IsStatement bank t → IsPlainTerm bank 0 t
-statement_plain bank t s = record { has = s.has; plain = simple_plain (tree_of bank t) s.simple; below = s.below }
+pub statement_scoped : (bank : Terms) (t : TermId) → IsStatement bank t → IsScoped bank 0 t
+statement_scoped bank t s = record { has = s.has; within = s.below }
 
 pub IsStatement-grown : (old new : Terms) (t : TermId) → Grows old new → IsStatement old t → IsStatement new t
 IsStatement-grown old new t g s = record {

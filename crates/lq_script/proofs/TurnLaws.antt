@@ -5,6 +5,7 @@ use Rattle.lq_terms.specs.Terms.{Terms}
 use Rattle.lq_output.specs.Faults.{Fault, not_built}
 use Rattle.lq_output.specs.Grammar.{Sentence, read}
 use Rattle.lq_output.specs.Sentences.{State, doing, sentence}
+use Rattle.lq_output.specs.Output.{kernel_budget}
 use Rattle.lq_script.specs.declared.fault.SentenceFault.{SentenceFault}
 use Rattle.lq_script.specs.declared.session.Session.{Session}
 use Rattle.lq_script.specs.declared.syntax.Sentence.{Sentence as Written}
@@ -25,7 +26,7 @@ unfolding sentence
 sentence_unread n s text e = ap (λ (o : Option Sentence). elim o as (λ _. Result _ Fault) [ Some y ↦ doing n s.env s.place y | None ↦ Err not_built ]) e
 
 pub unread_refused : (old : Session) (text : List ℕ) → read text ≡ None → IsRefused old text not_built
-unread_refused old text e = (0, λ n h. sentence_unread n (state_of old) text e)
+unread_refused old text e = sentence_unread kernel_budget (state_of old) text e
 
 -- what was read
 pub read_some : (o : Option Written) (x : Written) (text : List ℕ) → option_map plain_sentence o ≡ read text → o ≡ Some x → read text ≡ Some (plain_sentence x)
@@ -42,12 +43,12 @@ tells_by bank (SentenceFault.OpenGoals k) P Q go t = go _ t
 tells_by bank SentenceFault.NoMemory P Q go t = tt
 
 pub run_accepted : {S : Type 0} (bytes : S → List ℕ) (old new : Session) (text : List ℕ) (x : Sentence) (r : Result S SentenceFault) → read text ≡ Some x
-    → Runs bytes new.bank new.env new.place r (λ n. doing n (state_of old).env (state_of old).place x) → IfOk r (λ line. IsAccepted old new text (bytes line))
-run_accepted bytes old new text x (Ok line) e r = (r.enough, λ n h. sentence_read n (state_of old) text x e ∙ r.gives n h)
+    → Runs bytes new.bank new.env new.place r (doing kernel_budget (state_of old).env (state_of old).place x) → IfOk r (λ line. IsAccepted old new text (bytes line))
+run_accepted bytes old new text x (Ok line) e r = sentence_read kernel_budget (state_of old) text x e ∙ r
 run_accepted bytes old new text x (Err fault) e r = tt
 
 pub run_tells : {S : Type 0} (bytes : S → List ℕ) (old new : Session) (text : List ℕ) (x : Sentence) (r : Result S SentenceFault) → read text ≡ Some x
-    → Runs bytes new.bank new.env new.place r (λ n. doing n (state_of old).env (state_of old).place x) → IfErr r (λ fault. Tells new.bank fault (IsRefused old text))
+    → Runs bytes new.bank new.env new.place r (doing kernel_budget (state_of old).env (state_of old).place x) → IfErr r (λ fault. Tells new.bank fault (IsRefused old text))
 run_tells bytes old new text x (Ok line) e r = tt
 run_tells bytes old new text x (Err fault) e r =
-    tells_by new.bank fault _ (IsRefused old text) (λ f c. (c.enough, λ n h. sentence_read n (state_of old) text x e ∙ c.gives n h)) r
+    tells_by new.bank fault _ (IsRefused old text) (λ f c. sentence_read kernel_budget (state_of old) text x e ∙ c) r

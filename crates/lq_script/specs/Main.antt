@@ -3,17 +3,17 @@ use Rattle.std.specs.Prelude.{◌≡◌, ℕ, List, take, Option}
 use Rattle.std.specs.Io.KnownBytes.{Appends, IsAtEnd}
 use Rattle.lq_output.specs.declared.Status.{Status}
 use Rattle.lq_output.specs.declared.Status.TheVariants.{Done, ScriptFault, Usage, ReadFault, WriteFault, NoMemory, TooLong}
-use Rattle.lq_output.specs.Output.{output, Eventually}
+use Rattle.lq_output.specs.Output.{kernel_budget, output}
 use Rattle.lq_script.specs.Transfer.{AppendsFront}
 use Rattle.lq_script.specs.declared.script.Answer.{Answer}
 
 -- all of the script's text was put behind what the sink held, and the status is the script's
 abbrev pub GivesAll : List ℕ → Option (List ℕ) → Option (List ℕ) → Status → Type 0
-GivesAll bytes before after status = Eventually (λ n. ((output n bytes).status ≡ status) × Appends before after (output n bytes).text)
+GivesAll bytes before after status = ((output kernel_budget bytes).status ≡ status) × Appends before after (output kernel_budget bytes).text
 
 -- a front of the script's text was put behind what the sink held
 abbrev pub GivesFront : List ℕ → Option (List ℕ) → Option (List ℕ) → Type 0
-GivesFront bytes before after = (count : ℕ) × Eventually (λ n. Appends before after (take count (output n bytes).text))
+GivesFront bytes before after = (count : ℕ) × Appends before after (take count (output kernel_budget bytes).text)
 
 -- what a status says of a script of these bytes: it is the script's own, with all of its text, but for the three that a fault of
 -- a port or want of memory bring, which leave a front of the text

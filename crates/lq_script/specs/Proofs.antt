@@ -7,7 +7,6 @@ use Rattle.lq_terms.specs.declared.nodes.TermId.{TermId}
 use Rattle.lq_terms.specs.declared.nodes.Node.{Node}
 use Rattle.lq_terms.specs.Terms.{Terms, HasTerm, HasParts, tree_of, node_tree}
 use Rattle.lq_terms.specs.Contexts.{context_of, HasContext}
-use Rattle.lq_kernel.specs.Plain.{IsPlain}
 use Rattle.lq_output.specs.Faults.{Fault, not_built, differs, open_goals}
 use Rattle.lq_output.specs.Steps as steps
 use Rattle.lq_script.specs.declared.fault.SentenceFault.{SentenceFault}
@@ -32,10 +31,10 @@ pub record IsStatement (bank : Terms) (t : TermId) : Type 0 where
   pub below : Within 0 (tree_of bank t)
   pub low : depth (tree_of bank t) ≤ 201
 
--- a goal is reached from the statement by introductions; a finished term is plain and closed
+-- a goal is reached from the statement by introductions; a finished term is closed
 abbrev pub Reaches : Tree → steps.Proof → Type 0
 Reaches A (steps.goal g T) = Introduced A g T
-Reaches A (steps.finished t) = IsPlain t × Within 0 t
+Reaches A (steps.finished t) = Within 0 t
 
 -- what a refusal tells is so; memory may end at any time
 abbrev pub Tells : Terms → SentenceFault → (Fault → Type 0) → Type 0

@@ -1,22 +1,16 @@
 -- Sessions: what the code's places stand for, what is true of a session, and what a sentence does to it.
-use Rattle.std.specs.Prelude.{◌≡◌, ◌≤◌, ℕ, List, [], Option, Some, None, Result, Ok, Err}
+use Rattle.std.specs.Prelude.{◌≡◌, ℕ, List, [], Option, Some, None, Result, Ok, Err}
 use Rattle.lq_trees.specs.declared.Sort.{Sort as Universe}
 use Rattle.lq_terms.specs.declared.nodes.NameId.{NameId}
 use Rattle.lq_terms.specs.Terms.{Terms, HasName, text_of, tree_of}
-use Rattle.lq_kernel.specs.declared.environment.Constant.{Constant}
+use Rattle.lq_env.specs.declared.environment.Declared.{Declared}
 use Rattle.lq_kernel.specs.declared.faults.KernelFault.{KernelFault}
-use Rattle.lq_kernel.specs.Environments.{env_of}
-use Rattle.lq_kernel.specs.Plain.{IsPlainEnv}
+use Rattle.lq_env.specs.Environments.{IsEnv, env_of}
 use Rattle.lq_output.specs.Faults.{Fault}
 use Rattle.lq_output.specs.Sentences as sentences
 use Rattle.lq_script.specs.declared.fault.SentenceFault.{SentenceFault}
 use Rattle.lq_script.specs.declared.session.Place.{Place}
 use Rattle.lq_script.specs.Proofs.{proof_of, HasProof, IsStatement, Reaches, Tells}
-
--- every bound that is large enough gives that
-pub record Comes {A : Type 0} (f : ℕ → A) (a : A) : Type 0 where
-  pub enough : ℕ
-  pub gives : (n : ℕ) → enough ≤ n → f n ≡ a
 
 -- a place
 abbrev pub place_of : Terms → Place → sentences.Place
@@ -40,28 +34,28 @@ IsPlace bank (Place.Begun x A) = HasName bank x × IsStatement bank A
 IsPlace bank (Place.Worked x A p) = HasName bank x × IsStatement bank A × HasProof bank p × Reaches (tree_of bank A) (proof_of bank p)
 
 -- what is true of a session
-pub record IsSession (bank : Terms) (env : List (NameId × Constant)) (place : Place) : Type 0 where
-  pub plain : IsPlainEnv bank env
+pub record IsSession (bank : Terms) (env : List (NameId × Declared)) (place : Place) : Type 0 where
+  pub declared : IsEnv bank env
   pub stands : IsPlace bank place
 
 -- the declarations and the place, as the definition has them
-abbrev pub state_of : Terms → List (NameId × Constant) → Place → sentences.State
+abbrev pub state_of : Terms → List (NameId × Declared) → Place → sentences.State
 state_of bank env place = record { env = env_of bank env; place = place_of bank place }
 
 -- the place that a sentence leads to, with nothing written, or its fault
-abbrev pub Moves : Terms → List (NameId × Constant) → Result Place SentenceFault → (ℕ → Result (List ℕ × sentences.State) Fault) → Type 0
-Moves bank env (Ok place) f = IsPlace bank place × Comes f (Ok ([], state_of bank env place))
-Moves bank env (Err e) f = Tells bank e (λ g. Comes f (Err g))
+abbrev pub Moves : Terms → List (NameId × Declared) → Result Place SentenceFault → Result (List ℕ × sentences.State) Fault → Type 0
+Moves bank env (Ok place) r = IsPlace bank place × (r ≡ Ok ([], state_of bank env place))
+Moves bank env (Err e) r = Tells bank e (λ f. r ≡ Err f)
 
 -- the text that a sentence writes, by its bytes, and the state after it, or its fault
-abbrev pub Runs : {S : Type 0} → (S → List ℕ) → Terms → List (NameId × Constant) → Place → Result S SentenceFault → (ℕ → Result (List ℕ × sentences.State) Fault) → Type 0
-Runs bytes bank env place (Ok text) f = Comes f (Ok (bytes text, state_of bank env place))
-Runs bytes bank env place (Err e) f = Tells bank e (λ g. Comes f (Err g))
+abbrev pub Runs : {S : Type 0} → (S → List ℕ) → Terms → List (NameId × Declared) → Place → Result S SentenceFault → Result (List ℕ × sentences.State) Fault → Type 0
+Runs bytes bank env place (Ok text) r = r ≡ Ok (bytes text, state_of bank env place)
+Runs bytes bank env place (Err e) r = Tells bank e (λ f. r ≡ Err f)
 
 -- a type has a sort, or the fault of the look for it
-abbrev pub HasSort : Terms → Result (Unit {0}) SentenceFault → (ℕ → Result Universe Fault) → Type 0
-HasSort bank (Ok ok) f = (s : Universe) × Comes f (Ok s)
-HasSort bank (Err e) f = Tells bank e (λ g. Comes f (Err g))
+abbrev pub HasSort : Terms → Result (Unit {0}) SentenceFault → Result Universe Fault → Type 0
+HasSort bank (Ok ok) r = (s : Universe) × (r ≡ Ok s)
+HasSort bank (Err e) r = Tells bank e (λ f. r ≡ Err f)
 
 -- a refusal of the kernel as a refusal of a sentence
 abbrev pub told_of : KernelFault → SentenceFault

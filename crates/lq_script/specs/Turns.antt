@@ -3,7 +3,7 @@ use Rattle.std.specs.Prelude.{◌≡◌, ℕ, Bool, true, false, List, ◌++◌,
 use Rattle.lq_output.specs.Faults.{Fault}
 use Rattle.lq_output.specs.Script.{cut}
 use Rattle.lq_output.specs.Sentences.{State, sentence}
-use Rattle.lq_output.specs.Output.{run, start, at_end, behind, refused, Eventually}
+use Rattle.lq_output.specs.Output.{run, start, at_end, behind, refused, kernel_budget}
 use Rattle.lq_script.specs.declared.script.Answer.{Answer}
 use Rattle.lq_script.specs.declared.session.Session.{Session}
 use Rattle.lq_script.specs.Answers.{as_output}
@@ -11,11 +11,11 @@ use Rattle.lq_script.specs.States.{state_of}
 
 -- a sentence is accepted, and writes that text
 abbrev pub IsAccepted : Session → Session → List ℕ → List ℕ → Type 0
-IsAccepted old new text line = Eventually (λ n. sentence n (state_of old) text ≡ Ok (line, state_of new))
+IsAccepted old new text line = sentence kernel_budget (state_of old) text ≡ Ok (line, state_of new)
 
 -- a sentence has that fault
 abbrev pub IsRefused : Session → List ℕ → Fault → Type 0
-IsRefused old text fault = Eventually (λ n. sentence n (state_of old) text ≡ Err fault)
+IsRefused old text fault = sentence kernel_budget (state_of old) text ≡ Err fault
 
 -- the sentence is accepted, and its text is put behind the output so far
 pub record Accepts (old new : Session) (text before after : List ℕ) : Type 0 where
@@ -36,7 +36,7 @@ Turns false old new number text before after = Refuses old number text before af
 
 -- the answer is what a run of the sentences gives
 abbrev pub IsRunOf : List ℕ → Answer → Type 0
-IsRunOf bytes a = Eventually (λ n. run n start 1 (cut bytes).sentences (cut bytes).rest ≡ as_output a)
+IsRunOf bytes a = run kernel_budget start 1 (cut bytes).sentences (cut bytes).rest ≡ as_output a
 
 -- the answer is the text so far and what the end gives
 abbrev pub IsEndOf : State → ℕ → List ℕ → List ℕ → Answer → Type 0

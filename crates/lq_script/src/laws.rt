@@ -1,19 +1,15 @@
 //! Laws of scripts, each the contract of a function that does nothing.
 
 ghost use Rattle.std.specs.Prelude.{ℕ, List, ◌++◌};
-ghost use Rattle.lq_output.specs.Output.{Eventually};
 ghost use Rattle.lq_output.specs.Joined.{IsAccepted, SharesNone, NamesNoTheorem, joined, FitsJoined};
 
 /// Two scripts that are accepted one by one and share no name are accepted one after the other, with their outputs joined.
 /// A line feed stands between them. It is enough that no name in the second is that of a theorem of the first.
 pub fn accepted_scripts_join()
-    // It holds for every bound on the depth of the kernel's calls that is large enough.
-    ensures shares_none { (a b s t : List ℕ) → Eventually (λ n. IsAccepted n a s) → Eventually (λ n. IsAccepted n b t) →
-        SharesNone a b → FitsJoined a b → Eventually (λ n. IsAccepted n (joined a b) (s ++ t)) }
+    // It holds for every budget of the kernel.
+    ensures shares_none { (n : ℕ) (a b s t : List ℕ) → IsAccepted n a s → IsAccepted n b t →
+        SharesNone a b → FitsJoined a b → IsAccepted n (joined a b) (s ++ t) }
     // So it is too where they share names, but none of a theorem of the first.
-    ensures names_no_theorem { (a b s t : List ℕ) → Eventually (λ n. IsAccepted n a s) → Eventually (λ n. IsAccepted n b t) →
-        NamesNoTheorem a b → FitsJoined a b → Eventually (λ n. IsAccepted n (joined a b) (s ++ t)) }
-    // And it holds for each single bound.
-    ensures each_bound { (n : ℕ) (a b s t : List ℕ) → IsAccepted n a s → IsAccepted n b t →
+    ensures names_no_theorem { (n : ℕ) (a b s t : List ℕ) → IsAccepted n a s → IsAccepted n b t →
         NamesNoTheorem a b → FitsJoined a b → IsAccepted n (joined a b) (s ++ t) }
 {}

@@ -12,8 +12,10 @@ use crate::printer::append_fault_line;
 use crate::reader::{behind_blanks, read, sentence_end};
 use crate::session::{Place, Session};
 use lq_output::Status;
-use lq_terms::NoMemory;
+use lq_terms::{NoMemory, Steps};
 use std::alloc::Global;
+use std::marker::Brand;
+use std::sync::ledger::{Blank, Ledger};
 
 /// The most bytes of a script.
 const MOST_BYTES: usize = 4_194_304;
@@ -34,7 +36,8 @@ pub(crate) fn run_script(alloc: Global, bytes: &[u8]) -> Result<Answer, NoMemory
     if bytes.len() > MOST_BYTES {
         return answer_too_long(alloc);
     }
-    run_sentences(alloc, bytes)
+    let blank = Blank::new(1);
+    run_sentences::<Brand>(alloc, bytes, blank)
 }
 
 /// The answer to a script of too many bytes.
@@ -50,16 +53,26 @@ fn answer_too_long(alloc: Global) -> Result<Answer, NoMemory>
 }
 
 /// The answer to a script's sentences, one after the other: the first fault ends the run.
-fn run_sentences(alloc: Global, bytes: &[u8]) -> Result<Answer, NoMemory>
-    requires { length bytes.now < 2 ^ 62 }
+fn run_sentences<L: Ledger>(alloc: Global, bytes: &[u8], blank: Blank) -> Result<Answer, NoMemory>
+    requires length { length bytes.now < 2 ^ 62 }
+    requires name { blank.name ≡ L.name }
+    requires parts { blank.parts ≡ L.parts }
+    requires some { 0 < L.parts }
     ensures { IfOk result (IsRunOf bytes.now) }
 {
+    let mut steps = Steps::<L>::new(blank);
     let mut session = Session::new(alloc)?;
     let mut text = Vec::new(alloc);
     let mut from = 0usize;
     let mut number = 1u64;
     while let Some(dot) = sentence_end(bytes, from) {
-        if !run_sentence(&mut session, &bytes[from..dot], number, &mut text)? {
+        if !run_sentence(
+            &mut session,
+            &bytes[from..dot],
+            number,
+            &mut text,
+            &mut steps,
+        )? {
             return Ok(Answer {
                 text,
                 status: Status::ScriptFault,
@@ -73,17 +86,18 @@ fn run_sentences(alloc: Global, bytes: &[u8]) -> Result<Answer, NoMemory>
 
 /// Runs a sentence and puts what it writes, or the line of its fault, behind the text so far. It
 /// answers whether the run goes on.
-fn run_sentence(
+fn run_sentence<L: Ledger>(
     session: &mut Session<'_>,
     sentence: &[u8],
     number: u64,
     text: &mut Vec<u8>,
+    steps: &mut Steps<L>,
 ) -> Result<bool, NoMemory>
     requires { IsSession session.old }
     ensures is { IfOk result (λ goes. goes ≡ true → IsSession session.new) }
     ensures turns { IfOk result (λ goes. Turns goes session.old session.new number sentence.now text.old.items text.new.items) }
 {
-    match read_and_run(session, sentence) {
+    match read_and_run(session, sentence, steps) {
         Ok(line) => {
             text.extend_from_slice(line.as_bytes())?;
             Ok(true)
@@ -96,14 +110,18 @@ fn run_sentence(
 }
 
 /// Runs the sentence that a text without its dot is, and gives what it writes.
-fn read_and_run(session: &mut Session<'_>, text: &[u8]) -> Result<String, SentenceFault>
+fn read_and_run<L: Ledger>(
+    session: &mut Session<'_>,
+    text: &[u8],
+    steps: &mut Steps<L>,
+) -> Result<String, SentenceFault>
     requires { IsSession session.old }
     ensures is { IsSession session.new }
     ensures accepted { IfOk result (λ line. IsAccepted session.old session.new text.now (string_bytes line)) }
     ensures refused { IfErr result (λ fault. Tells session.new.bank fault (IsRefused session.old text.now)) }
 {
     match read(session.bank.allocator(), text)? {
-        Some(sentence) => session.run(&sentence),
+        Some(sentence) => session.run(&sentence, steps),
         None => Err(SentenceFault::NotBuilt),
     }
 }

@@ -4,12 +4,12 @@ ghost use Rattle.std.specs.Prelude.{◌≡◌, ◌≤◌, ℕ, [], map, true, is
 ghost use Rattle.lq_terms.specs.Terms.{HasName, text_of, tree_of, Grows};
 ghost use Rattle.lq_calculus.specs.Declarations.{lookup};
 ghost use Rattle.lq_calculus.specs.Checking.{sort_of, declare_constant};
-ghost use Rattle.lq_kernel.specs.Plain.{IsPlainTerm, IsPlainEnv};
-ghost use Rattle.lq_kernel.specs.Environments.{env_of};
+ghost use Rattle.lq_kernel.specs.Closed.{IsScoped};
+ghost use Rattle.lq_env.specs.Environments.{IsEnv, env_of};
 ghost use Rattle.lq_output.specs.Grammar as grammar;
 ghost use Rattle.lq_output.specs.Nesting.{nesting, IsShallow};
 ghost use Rattle.lq_output.specs.Sentences.{comes_to, with_tree, declared, doing, defined};
-ghost use Rattle.lq_output.specs.Output.{start};
+ghost use Rattle.lq_output.specs.Output.{start, kernel_budget};
 ghost use Rattle.lq_output.specs.Steps.{resolved};
 ghost use Rattle.lq_script.specs.Syntax.{plain_surface, plain_tactic, plain_sentence};
 ghost use Rattle.lq_script.specs.Scopes.{IsMeant};
@@ -20,9 +20,14 @@ use crate::fault::SentenceFault;
 use crate::statement::resolve;
 use crate::syntax::{Sentence, Surface, Tactic};
 use crate::tactics::{Proof, run_tactics};
-use lq_kernel::{Declaration, Env, KernelFault, declare, infer};
-use lq_terms::{Bank, Context, NameId, NoMemory, Node, TermId};
+use lq_env::Env;
+use lq_kernel::{Declaration, KernelFault, declare, sort_of};
+use lq_terms::{Bank, Context, NameId, NoMemory, Steps, TermId, Ticks, Work};
 use std::alloc::Global;
+use std::sync::ledger::Ledger;
+
+/// The kernel's budget for a sentence, in ticks.
+const KERNEL_BUDGET: u64 = 1_000_000;
 
 /// Where a script stands: between theorems, or inside one, behind its statement, its `Proof` or its tactics.
 #[derive(Drop)]
@@ -49,31 +54,47 @@ fn told(fault: KernelFault) -> SentenceFault
 }
 
 /// Whether a statement has a sort.
-fn find_sort(bank: &mut Bank<'_>, env: &Env, statement: TermId) -> Result<(), SentenceFault>
-    requires env { IsPlainEnv bank.old env.now }
-    requires statement { IsStatement bank.old statement }
-    ensures answer { HasSort bank.new result (λ n. comes_to (sort_of (env_of bank.old env.now) n [] (tree_of bank.old statement))) }
-    ensures grows { Grows bank.old bank.new }
+fn find_sort<L: Ledger>(
+    work: &mut Work<'_, '_>,
+    env: &Env,
+    statement: TermId,
+    steps: &mut Steps<L>,
+) -> Result<(), SentenceFault>
+    requires env { IsEnv work.old.bank.now env.now }
+    requires statement { IsStatement work.old.bank.now statement }
+    requires budget { work.old.ticks.now.left ≡ kernel_budget }
+    ensures answer { HasSort work.new.bank.now result (comes_to kernel_budget (λ n. sort_of (env_of work.old.bank.now env.now) n [] (tree_of work.old.bank.now statement))) }
+    ensures same_bank { work.new.bank.ghost_name ≡ work.old.bank.ghost_name }
+    ensures same_ticks { work.new.ticks.ghost_name ≡ work.old.ticks.ghost_name }
+    ensures grows { Grows work.old.bank.now work.new.bank.now }
 {
-    let context = Context::new(bank.allocator());
-    match infer(bank, env, &context, statement) {
-        Ok(kind) => match bank.node(kind) {
-            Node::Sort(_) => Ok(()),
-            _ => Err(SentenceFault::NotBuilt),
-        },
+    let context = Context::new(work.bank.allocator());
+    match sort_of(work, env, &context, statement, steps) {
+        Ok(_) => Ok(()),
         Err(refusal) => Err(told(refusal)),
     }
 }
 
-/// Whether a statement has a sort. Where it has, the terms that were made to find out are dropped.
-fn check_sort(bank: &mut Bank<'_>, env: &Env, statement: TermId) -> Result<(), SentenceFault>
-    requires env { IsPlainEnv bank.old env.now }
+/// Whether a statement has a sort, found with the kernel's budget. Where it has, the terms that were made
+/// to find out are dropped.
+fn check_sort<L: Ledger>(
+    bank: &mut Bank<'_>,
+    env: &Env,
+    statement: TermId,
+    steps: &mut Steps<L>,
+) -> Result<(), SentenceFault>
+    requires env { IsEnv bank.old env.now }
     requires statement { IsStatement bank.old statement }
-    ensures answer { HasSort bank.new result (λ n. comes_to (sort_of (env_of bank.old env.now) n [] (tree_of bank.old statement))) }
+    ensures answer { HasSort bank.new result (comes_to kernel_budget (λ n. sort_of (env_of bank.old env.now) n [] (tree_of bank.old statement))) }
     ensures grows { Grows bank.old bank.new }
 {
     let mark = bank.mark();
-    match find_sort(bank, env, statement) {
+    let mut ticks = Ticks::new(KERNEL_BUDGET);
+    let mut work = Work {
+        bank: &mut *bank,
+        ticks: &mut ticks,
+    };
+    match find_sort(&mut work, env, statement, steps) {
         Ok(()) => {
             bank.undo(mark);
             Ok(())
@@ -84,7 +105,7 @@ fn check_sort(bank: &mut Bank<'_>, env: &Env, statement: TermId) -> Result<(), S
 
 /// The statement that a written term stands for.
 fn statement(bank: &mut Bank<'_>, env: &Env, surface: &Surface) -> Result<Option<TermId>, NoMemory>
-    requires env { IsPlainEnv bank.old env.now }
+    requires env { IsEnv bank.old env.now }
     requires shallow { nesting (plain_surface surface.now) ≤ 200 }
     ensures answer { IfOk result (λ o. IsMeant bank.new o (resolved (env_of bank.old env.now) [] (plain_surface surface.now))) }
     ensures statement { IfOk result (λ o. IfSome o (IsStatement bank.new)) }
@@ -96,22 +117,23 @@ fn statement(bank: &mut Bank<'_>, env: &Env, surface: &Surface) -> Result<Option
 }
 
 /// `Theorem` for a name that is new: the names of the statement are known, and it has a sort.
-fn state(
+fn state<L: Ledger>(
     bank: &mut Bank<'_>,
     env: &Env,
     name: NameId,
     surface: &Surface,
+    steps: &mut Steps<L>,
 ) -> Result<Place, SentenceFault>
-    requires env { IsPlainEnv bank.old env.now }
+    requires env { IsEnv bank.old env.now }
     requires name { HasName bank.old name }
     requires shallow { nesting (plain_surface surface.now) ≤ 200 }
-    ensures answer { Moves bank.new env.now result (λ n. with_tree n (env_of bank.old env.now) (text_of bank.old name) (resolved (env_of bank.old env.now) [] (plain_surface surface.now))) }
+    ensures answer { Moves bank.new env.now result (with_tree kernel_budget (env_of bank.old env.now) (text_of bank.old name) (resolved (env_of bank.old env.now) [] (plain_surface surface.now))) }
     ensures grows { Grows bank.old bank.new }
 {
     let Some(statement) = statement(bank, env, surface)? else {
         return Err(SentenceFault::NotBuilt);
     };
-    match check_sort(bank, env, statement) {
+    match check_sort(bank, env, statement, steps) {
         Ok(()) => Ok(Place::Stated(name, statement)),
         Err(fault) => Err(fault),
     }
@@ -119,7 +141,7 @@ fn state(
 
 /// Whether a name is declared.
 fn is_declared(bank: &Bank<'_>, env: &Env, name: NameId) -> bool
-    requires env { IsPlainEnv bank.now env.now }
+    requires env { IsEnv bank.now env.now }
     requires name { HasName bank.now name }
     ensures { result ≡ is_some (lookup (env_of bank.now env.now) (text_of bank.now name)) }
 {
@@ -128,16 +150,17 @@ fn is_declared(bank: &Bank<'_>, env: &Env, name: NameId) -> bool
 }
 
 /// `Theorem`, between theorems.
-fn theorem(
+fn theorem<L: Ledger>(
     bank: &mut Bank<'_>,
     env: &Env,
     place: &Place,
     text: &str,
     surface: &Surface,
+    steps: &mut Steps<L>,
 ) -> Result<Place, SentenceFault>
-    requires env { IsPlainEnv bank.old env.now }
+    requires env { IsEnv bank.old env.now }
     requires shallow { nesting (plain_surface surface.now) ≤ 200 }
-    ensures answer { Moves bank.new env.now result (λ n. doing n (env_of bank.old env.now) (place_of bank.old place.now) (grammar.theorem text.now (plain_surface surface.now))) }
+    ensures answer { Moves bank.new env.now result (doing kernel_budget (env_of bank.old env.now) (place_of bank.old place.now) (grammar.theorem text.now (plain_surface surface.now))) }
     ensures grows { Grows bank.old bank.new }
 {
     let Place::Outside = place else {
@@ -147,7 +170,7 @@ fn theorem(
     if is_declared(bank, env, name) {
         return Err(SentenceFault::NotBuilt);
     }
-    state(bank, env, name, surface)
+    state(bank, env, name, surface, steps)
 }
 
 /// `Proof`, behind a statement.
@@ -167,9 +190,9 @@ fn work(
     place: &Place,
     tactics: &[Tactic],
 ) -> Result<Place, SentenceFault>
-    requires env { IsPlainEnv bank.old env.now }
+    requires env { IsEnv bank.old env.now }
     requires place { IsPlace bank.old place.now }
-    ensures answer { Moves bank.new env.now result (λ n. doing n (env_of bank.old env.now) (place_of bank.old place.now) (grammar.tactics (map plain_tactic tactics.now))) }
+    ensures answer { Moves bank.new env.now result (doing kernel_budget (env_of bank.old env.now) (place_of bank.old place.now) (grammar.tactics (map plain_tactic tactics.now))) }
     ensures grows { Grows bank.old bank.new }
 {
     let Place::Begun(name, statement) = place else {
@@ -194,42 +217,77 @@ fn report(bank: &Bank<'_>, name: NameId) -> Result<String, NoMemory>
 }
 
 /// Declares a finished theorem as an opaque constant.
-fn define(
-    bank: &mut Bank<'_>,
+fn declare_theorem<L: Ledger>(
+    work: &mut Work<'_, '_>,
     env: &mut Env,
     name: NameId,
     statement: TermId,
     term: TermId,
+    steps: &mut Steps<L>,
 ) -> Result<String, SentenceFault>
-    requires env { IsPlainEnv bank.old env.old }
-    requires name { HasName bank.old name }
-    requires statement { IsStatement bank.old statement }
-    requires term { IsPlainTerm bank.old 0 term }
-    ensures answer { Runs string_bytes bank.new env.new Place.Outside result (λ n. declared (text_of bank.old name) (comes_to (declare_constant (env_of bank.old env.old) n (text_of bank.old name) (tree_of bank.old statement) (tree_of bank.old term) true))) }
+    requires env { IsEnv work.old.bank.now env.old }
+    requires name { HasName work.old.bank.now name }
+    requires statement { IsStatement work.old.bank.now statement }
+    requires term { IsScoped work.old.bank.now 0 term }
+    requires budget { work.old.ticks.now.left ≡ kernel_budget }
+    ensures answer { Runs string_bytes work.new.bank.now env.new Place.Outside result (declared (text_of work.old.bank.now name) (comes_to kernel_budget (λ n. declare_constant (env_of work.old.bank.now env.old) n (text_of work.old.bank.now name) (tree_of work.old.bank.now statement) (tree_of work.old.bank.now term) true))) }
     ensures kept { OnErr result (env.new ≡ env.old) }
-    ensures plain { IsPlainEnv bank.new env.new }
-    ensures grows { Grows bank.old bank.new }
+    ensures declared { IsEnv work.new.bank.now env.new }
+    ensures same_bank { work.new.bank.ghost_name ≡ work.old.bank.ghost_name }
+    ensures same_ticks { work.new.ticks.ghost_name ≡ work.old.ticks.ghost_name }
+    ensures grows { Grows work.old.bank.now work.new.bank.now }
 {
-    let text = report(bank, name)?;
+    let text = report(work.bank, name)?;
     let declaration = Declaration::Constant {
         name,
         kind: statement,
         body: term,
         opaque: true,
     };
-    match declare(bank, env, declaration) {
+    match declare(work, env, declaration, steps) {
         Ok(()) => Ok(text),
         Err(fault) => Err(told(fault)),
     }
 }
 
-/// `Qed`, behind the tactics.
-fn finish(bank: &mut Bank<'_>, env: &mut Env, place: &Place) -> Result<String, SentenceFault>
-    requires env { IsPlainEnv bank.old env.old }
-    requires place { IsPlace bank.old place.now }
-    ensures answer { Runs string_bytes bank.new env.new Place.Outside result (λ n. doing n (env_of bank.old env.old) (place_of bank.old place.now) grammar.qed) }
+/// Declares a finished theorem with the kernel's budget.
+fn define<L: Ledger>(
+    bank: &mut Bank<'_>,
+    env: &mut Env,
+    name: NameId,
+    statement: TermId,
+    term: TermId,
+    steps: &mut Steps<L>,
+) -> Result<String, SentenceFault>
+    requires env { IsEnv bank.old env.old }
+    requires name { HasName bank.old name }
+    requires statement { IsStatement bank.old statement }
+    requires term { IsScoped bank.old 0 term }
+    ensures answer { Runs string_bytes bank.new env.new Place.Outside result (declared (text_of bank.old name) (comes_to kernel_budget (λ n. declare_constant (env_of bank.old env.old) n (text_of bank.old name) (tree_of bank.old statement) (tree_of bank.old term) true))) }
     ensures kept { OnErr result (env.new ≡ env.old) }
-    ensures plain { IsPlainEnv bank.new env.new }
+    ensures declared { IsEnv bank.new env.new }
+    ensures grows { Grows bank.old bank.new }
+{
+    let mut ticks = Ticks::new(KERNEL_BUDGET);
+    let mut work = Work {
+        bank,
+        ticks: &mut ticks,
+    };
+    declare_theorem(&mut work, env, name, statement, term, steps)
+}
+
+/// `Qed`, behind the tactics.
+fn finish<L: Ledger>(
+    bank: &mut Bank<'_>,
+    env: &mut Env,
+    place: &Place,
+    steps: &mut Steps<L>,
+) -> Result<String, SentenceFault>
+    requires env { IsEnv bank.old env.old }
+    requires place { IsPlace bank.old place.now }
+    ensures answer { Runs string_bytes bank.new env.new Place.Outside result (doing kernel_budget (env_of bank.old env.old) (place_of bank.old place.now) grammar.qed) }
+    ensures kept { OnErr result (env.new ≡ env.old) }
+    ensures declared { IsEnv bank.new env.new }
     ensures grows { Grows bank.old bank.new }
 {
     let Place::Worked(name, statement, proof) = place else {
@@ -239,7 +297,7 @@ fn finish(bank: &mut Bank<'_>, env: &mut Env, place: &Place) -> Result<String, S
         return Err(SentenceFault::OpenGoals(1));
     };
     let (name, statement, term) = (*name, *statement, *term);
-    define(bank, env, name, statement, term)
+    define(bank, env, name, statement, term, steps)
 }
 
 /// A script's names and terms, its declarations so far, and where it stands.
@@ -262,21 +320,26 @@ impl<'b> Session<'b> {
         let bank = Bank::new(alloc)?;
         Ok(Session {
             bank,
-            env: Env::new(alloc),
+            env: Env::new(alloc)?,
             place: Place::Outside,
         })
     }
 
     /// `Theorem`.
-    fn run_theorem(&mut self, text: &str, surface: &Surface) -> Result<String, SentenceFault>
+    fn run_theorem<L: Ledger>(
+        &mut self,
+        text: &str,
+        surface: &Surface,
+        steps: &mut Steps<L>,
+    ) -> Result<String, SentenceFault>
         requires session { IsSession self.old.bank self.old.env self.old.place }
         requires shallow { nesting (plain_surface surface.now) ≤ 200 }
-        ensures answer { Runs string_bytes self.new.bank self.new.env self.new.place result (λ n. doing n (env_of self.old.bank self.old.env) (place_of self.old.bank self.old.place) (grammar.theorem text.now (plain_surface surface.now))) }
+        ensures answer { Runs string_bytes self.new.bank self.new.env self.new.place result (doing kernel_budget (env_of self.old.bank self.old.env) (place_of self.old.bank self.old.place) (grammar.theorem text.now (plain_surface surface.now))) }
         ensures keeps { IsSession self.new.bank self.new.env self.new.place }
         ensures kept { OnErr result ((self.new.env ≡ self.old.env) × (self.new.place ≡ self.old.place)) }
         ensures grows { Grows self.old.bank self.new.bank }
     {
-        match theorem(&mut self.bank, &self.env, &self.place, text, surface) {
+        match theorem(&mut self.bank, &self.env, &self.place, text, surface, steps) {
             Ok(place) => {
                 self.place = place;
                 Ok(String::new(self.bank.allocator()))
@@ -288,7 +351,7 @@ impl<'b> Session<'b> {
     /// `Proof`.
     fn run_proof(&mut self) -> Result<String, SentenceFault>
         requires session { IsSession self.old.bank self.old.env self.old.place }
-        ensures answer { Runs string_bytes self.new.bank self.new.env self.new.place result (λ n. doing n (env_of self.old.bank self.old.env) (place_of self.old.bank self.old.place) grammar.proof) }
+        ensures answer { Runs string_bytes self.new.bank self.new.env self.new.place result (doing kernel_budget (env_of self.old.bank self.old.env) (place_of self.old.bank self.old.place) grammar.proof) }
         ensures keeps { IsSession self.new.bank self.new.env self.new.place }
         ensures kept { OnErr result ((self.new.env ≡ self.old.env) × (self.new.place ≡ self.old.place)) }
         ensures grows { Grows self.old.bank self.new.bank }
@@ -305,7 +368,7 @@ impl<'b> Session<'b> {
     /// Tactics.
     fn run_tactics(&mut self, tactics: &[Tactic]) -> Result<String, SentenceFault>
         requires session { IsSession self.old.bank self.old.env self.old.place }
-        ensures answer { Runs string_bytes self.new.bank self.new.env self.new.place result (λ n. doing n (env_of self.old.bank self.old.env) (place_of self.old.bank self.old.place) (grammar.tactics (map plain_tactic tactics.now))) }
+        ensures answer { Runs string_bytes self.new.bank self.new.env self.new.place result (doing kernel_budget (env_of self.old.bank self.old.env) (place_of self.old.bank self.old.place) (grammar.tactics (map plain_tactic tactics.now))) }
         ensures keeps { IsSession self.new.bank self.new.env self.new.place }
         ensures kept { OnErr result ((self.new.env ≡ self.old.env) × (self.new.place ≡ self.old.place)) }
         ensures grows { Grows self.old.bank self.new.bank }
@@ -320,14 +383,14 @@ impl<'b> Session<'b> {
     }
 
     /// `Qed`.
-    fn run_qed(&mut self) -> Result<String, SentenceFault>
+    fn run_qed<L: Ledger>(&mut self, steps: &mut Steps<L>) -> Result<String, SentenceFault>
         requires session { IsSession self.old.bank self.old.env self.old.place }
-        ensures answer { Runs string_bytes self.new.bank self.new.env self.new.place result (λ n. doing n (env_of self.old.bank self.old.env) (place_of self.old.bank self.old.place) grammar.qed) }
+        ensures answer { Runs string_bytes self.new.bank self.new.env self.new.place result (doing kernel_budget (env_of self.old.bank self.old.env) (place_of self.old.bank self.old.place) grammar.qed) }
         ensures keeps { IsSession self.new.bank self.new.env self.new.place }
         ensures kept { OnErr result ((self.new.env ≡ self.old.env) × (self.new.place ≡ self.old.place)) }
         ensures grows { Grows self.old.bank self.new.bank }
     {
-        match finish(&mut self.bank, &mut self.env, &self.place) {
+        match finish(&mut self.bank, &mut self.env, &self.place, steps) {
             Ok(text) => {
                 self.place = Place::Outside;
                 Ok(text)
@@ -342,19 +405,23 @@ impl<'b> Session<'b> {
     /// # Errors
     ///
     /// The sentence's fault.
-    pub(crate) fn run(&mut self, sentence: &Sentence) -> Result<String, SentenceFault>
+    pub(crate) fn run<L: Ledger>(
+        &mut self,
+        sentence: &Sentence,
+        steps: &mut Steps<L>,
+    ) -> Result<String, SentenceFault>
         requires session { IsSession self.old.bank self.old.env self.old.place }
         requires shallow { IsShallow (plain_sentence sentence.now) }
-        ensures answer { Runs string_bytes self.new.bank self.new.env self.new.place result (λ n. doing n (env_of self.old.bank self.old.env) (place_of self.old.bank self.old.place) (plain_sentence sentence.now)) }
+        ensures answer { Runs string_bytes self.new.bank self.new.env self.new.place result (doing kernel_budget (env_of self.old.bank self.old.env) (place_of self.old.bank self.old.place) (plain_sentence sentence.now)) }
         ensures keeps { IsSession self.new.bank self.new.env self.new.place }
         ensures kept { OnErr result ((self.new.env ≡ self.old.env) × (self.new.place ≡ self.old.place)) }
         ensures grows { Grows self.old.bank self.new.bank }
     {
         match sentence {
-            Sentence::Theorem(text, surface) => self.run_theorem(text.as_str(), surface),
+            Sentence::Theorem(text, surface) => self.run_theorem(text.as_str(), surface, steps),
             Sentence::Proof => self.run_proof(),
             Sentence::Tactics(tactics) => self.run_tactics(tactics.as_slice()),
-            Sentence::Qed => self.run_qed(),
+            Sentence::Qed => self.run_qed(steps),
         }
     }
 }

@@ -3,8 +3,7 @@
 ghost use Rattle.std.specs.Prelude.{◌≡◌, ◌≤◌, ◌<◌, ◌+◌, suc, max, length, ◌∷◌, IfOk, OnOk, IfSome};
 ghost use Rattle.std.specs.List.{AllByRecursion};
 ghost use Rattle.lq_terms.specs.Terms.{HasName, HasTerm, text_of, Grows};
-ghost use Rattle.lq_kernel.specs.Plain.{IsPlainEnv};
-ghost use Rattle.lq_kernel.specs.Environments.{env_of};
+ghost use Rattle.lq_env.specs.Environments.{IsEnv, env_of};
 ghost use Rattle.lq_output.specs.Nesting.{nesting};
 ghost use Rattle.lq_output.specs.Steps.{binder_of, global, meant, product_of, resolved};
 ghost use Rattle.lq_script.specs.Syntax.{plain_surface};
@@ -12,7 +11,7 @@ ghost use Rattle.lq_script.specs.Scopes.{scope_of, IsMeant, IsGlobal};
 ghost use Rattle.lq_script.specs.Places.{next_place};
 
 use crate::syntax::Surface;
-use lq_kernel::Env;
+use lq_env::{Entry, Env};
 use lq_terms::{Bank, NameId, NoMemory, Node, TermId};
 use lq_trees::Sort;
 
@@ -46,14 +45,17 @@ fn nearest(bank: &Bank<'_>, binders: &[NameId], name: NameId) -> Option<u32>
 
 /// The type of the constant of a name.
 pub(crate) fn constant_type(bank: &Bank<'_>, env: &Env, name: NameId) -> Option<TermId>
-    requires env { IsPlainEnv bank.now env.now }
+    requires env { IsEnv bank.now env.now }
     requires name { HasName bank.now name }
     ensures { IsGlobal bank.now (text_of bank.now name) result (global (env_of bank.now env.now) (text_of bank.now name)) }
 {
     let _text = bank.text(name);
-    match env.lookup(name) {
-        Some(constant) => Some(constant.kind),
-        None => None,
+    let Some(entry) = env.lookup(name) else {
+        return None;
+    };
+    match entry {
+        Entry::Constant { kind, .. } => Some(*kind),
+        _ => None,
     }
 }
 
@@ -64,7 +66,7 @@ fn meaning(
     binders: &[NameId],
     name: NameId,
 ) -> Result<Option<TermId>, NoMemory>
-    requires env { IsPlainEnv bank.old env.now }
+    requires env { IsEnv bank.old env.now }
     requires binders { AllByRecursion (HasName bank.old) binders.now }
     requires name { HasName bank.old name }
     requires few { length binders.now ≤ 200 }
@@ -89,7 +91,7 @@ fn named(
     binders: &[NameId],
     text: &str,
 ) -> Result<Option<TermId>, NoMemory>
-    requires env { IsPlainEnv bank.old env.now }
+    requires env { IsEnv bank.old env.now }
     requires binders { AllByRecursion (HasName bank.old) binders.now }
     requires few { length binders.now ≤ 200 }
     ensures answer { IfOk result (λ o. IsMeant bank.new o (meant (env_of bank.old env.now) (scope_of bank.old binders.now) text.now)) }
@@ -110,7 +112,7 @@ pub(crate) fn resolve(
     binders: &mut Vec<NameId>,
     surface: &Surface,
 ) -> Result<Option<TermId>, NoMemory>
-    requires env { IsPlainEnv bank.old env.now }
+    requires env { IsEnv bank.old env.now }
     requires binders { AllByRecursion (HasName bank.old) binders.old.items }
     requires shallow { length binders.old.items + nesting (plain_surface surface.now) ≤ 200 }
     ensures answer { IfOk result (λ o. IsMeant bank.new o (resolved (env_of bank.old env.now) (scope_of bank.old binders.old.items) (plain_surface surface.now))) }
@@ -148,7 +150,7 @@ fn product(
     kind: &Surface,
     rest: &Surface,
 ) -> Result<Option<TermId>, NoMemory>
-    requires env { IsPlainEnv bank.old env.now }
+    requires env { IsEnv bank.old env.now }
     requires binders { AllByRecursion (HasName bank.old) binders.old.items }
     requires shallow { length binders.old.items + suc (max (nesting (plain_surface kind.now)) (nesting (plain_surface rest.now))) ≤ 200 }
     ensures answer { IfOk result (λ o. IsMeant bank.new o (product_of text.now (resolved (env_of bank.old env.now) (scope_of bank.old binders.old.items) (plain_surface kind.now)) (resolved (env_of bank.old env.now) (text.now ∷ scope_of bank.old binders.old.items) (plain_surface rest.now)))) }
@@ -176,7 +178,7 @@ fn resolve_under(
     name: NameId,
     surface: &Surface,
 ) -> Result<Option<TermId>, NoMemory>
-    requires env { IsPlainEnv bank.old env.now }
+    requires env { IsEnv bank.old env.now }
     requires binders { AllByRecursion (HasName bank.old) binders.old.items }
     requires name { HasName bank.old name }
     requires shallow { suc (length binders.old.items) + nesting (plain_surface surface.now) ≤ 200 }

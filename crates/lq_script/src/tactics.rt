@@ -5,8 +5,7 @@ ghost use Rattle.lq_trees.specs.Fresh.{is_listed};
 ghost use Rattle.lq_trees.specs.Tree.{Tree};
 ghost use Rattle.lq_terms.specs.Terms.{HasName, HasTerm, HasParts, IsTerm, text_of, tree_of, node_tree, Grows};
 ghost use Rattle.lq_terms.specs.Contexts.{context_of, HasContext};
-ghost use Rattle.lq_kernel.specs.Plain.{IsPlainEnv};
-ghost use Rattle.lq_kernel.specs.Environments.{env_of};
+ghost use Rattle.lq_env.specs.Environments.{IsEnv, env_of};
 ghost use Rattle.lq_output.specs.Steps.{binder_of, goal, introduced, known_as, exactly, after_tactic, after_tactics};
 ghost use Rattle.lq_script.specs.Syntax.{plain_tactic};
 ghost use Rattle.lq_script.specs.Introduced.{Introduced, names_of, abstraction};
@@ -15,7 +14,7 @@ ghost use Rattle.lq_script.specs.Proofs.{proof_of, HasProof, IsStatement, Reache
 use crate::fault::SentenceFault;
 use crate::statement::constant_type;
 use crate::syntax::Tactic;
-use lq_kernel::Env;
+use lq_env::Env;
 use lq_terms::{Bank, Context, Hypothesis, NameId, NoMemory, Node, TermId, open, same};
 
 /// A proof: one goal, with its context and its conclusion, or no goal and the finished term.
@@ -97,7 +96,7 @@ fn known(
     hypotheses: &[Hypothesis],
     name: NameId,
 ) -> Option<(Node, TermId)>
-    requires env { IsPlainEnv bank.now env.now }
+    requires env { IsEnv bank.now env.now }
     requires hypotheses { HasContext bank.now hypotheses.now }
     requires few { length hypotheses.now ≤ 200 }
     requires name { HasName bank.now name }
@@ -166,7 +165,7 @@ fn exact(
     conclusion: TermId,
     text: &str,
 ) -> Result<Proof, SentenceFault>
-    requires env { IsPlainEnv bank.old env.now }
+    requires env { IsEnv bank.old env.now }
     requires statement { IsStatement bank.old statement }
     requires hypotheses { HasContext bank.old hypotheses.now }
     requires conclusion { HasTerm bank.old conclusion }
@@ -194,7 +193,7 @@ fn run_tactic(
     proof: Proof,
     tactic: &Tactic,
 ) -> Result<Proof, SentenceFault>
-    requires env { IsPlainEnv bank.old env.now }
+    requires env { IsEnv bank.old env.now }
     requires statement { IsStatement bank.old statement }
     requires proof { HasProof bank.old proof }
     requires reaches { Reaches (tree_of bank.old statement) (proof_of bank.old proof) }
@@ -220,7 +219,7 @@ pub(crate) fn run_tactics(
     statement: TermId,
     tactics: &[Tactic],
 ) -> Result<Proof, SentenceFault>
-    requires env { IsPlainEnv bank.old env.now }
+    requires env { IsEnv bank.old env.now }
     requires statement { IsStatement bank.old statement }
     ensures answer { Proves bank.new result (after_tactics (env_of bank.old env.now) (goal [] (tree_of bank.old statement)) (map plain_tactic tactics.now)) }
     ensures reaches { IfOk result (λ p. Reaches (tree_of bank.new statement) (proof_of bank.new p)) }

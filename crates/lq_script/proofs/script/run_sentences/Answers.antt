@@ -8,7 +8,7 @@ use Rattle.lq_script.proofs.ScriptLaws.{HasRun, no_run, run_more, run_refused, r
 use Rattle.lq_script.proofs.script.run_sentences.Goals as goal
 
 pub loop-dot-init : goal.loop-dot-init
-loop-dot-init c = record {
+loop-dot-init g c = record {
   within = omega arith;
   counted = omega arith;
   sound = c.in_ok-session.ensures.session;
@@ -18,13 +18,13 @@ loop-dot-init c = record {
 }
 
 pub returns-then-not-branch : goal.returns-then-not-branch
-returns-then-not-branch c =
+returns-then-not-branch g c =
     let a : Answer = record { text = c.run_sentence.new.text; status = Status.ScriptFault } in
     run_refused c.args.bytes.now c.loop-dot.text.items c.run_sentence.new.text.items c.loop-dot.session c.loop-dot.number c.loop-dot.from c.in-Some.dot a c.loop-dot.invariant.so_far c.in-Some.ensures
     (turn_ends c.in_ok-run_sentence.field-0 c.loop-dot.session c.run_sentence.new.session c.loop-dot.number _ c.loop-dot.text.items c.run_sentence.new.text.items c.if-not-branch.true c.in_ok-run_sentence.ensures.turns) refl refl
 
 pub loop-dot-preserved : goal.loop-dot-preserved
-loop-dot-preserved c = record {
+loop-dot-preserved g c = record {
   within = omega (arith, c.in-Some.ensures.within);
   counted = omega (arith, c.in-Some.ensures.order, c.loop-dot.invariant.counted);
   sound = c.in_ok-run_sentence.ensures.is c.if-not-branch.false;
@@ -34,7 +34,7 @@ loop-dot-preserved c = record {
 }
 
 pub returns : goal.returns
-returns c =
+returns g c =
     let bytes = c.args.bytes.now in
     let from = c.loop-dot.from in
     let rest = take (length bytes - from) (drop from bytes) in

@@ -5,7 +5,7 @@ use Rattle.lq_script.proofs.script.run_sentences.Given as goal
 
 -- what is written so far, and then the run of what is left, is the run of all
 abbrev pub invariant-loop-dot : goal.invariant-loop-dot
-invariant-loop-dot l = record {
+invariant-loop-dot g l = record {
   within : l.from ≤ length l.bytes;
   counted : l.number ≤ l.from + 1;
   sound : IsSession l.session;
@@ -13,4 +13,4 @@ invariant-loop-dot l = record {
 }
 
 abbrev pub decreases-loop-dot : goal.decreases-loop-dot
-decreases-loop-dot l = length l.bytes + 1 - l.from
+decreases-loop-dot g l = length l.bytes + 1 - l.from

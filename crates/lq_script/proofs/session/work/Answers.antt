@@ -1,6 +1,6 @@
 use Rattle.std.proofs.Common.{map}
 use Rattle.lq_terms.proofs.Growth.{Grows-refl}
-use Rattle.lq_kernel.specs.Environments.{env_of}
+use Rattle.lq_env.specs.Environments.{env_of}
 use Rattle.lq_script.specs.Syntax.{plain_tactic}
 use Rattle.lq_script.proofs.Moving.{tactics_misplaced, work_ok, work_err}
 use Rattle.lq_script.proofs.session.work.Goals as goal

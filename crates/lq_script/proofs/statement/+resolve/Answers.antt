@@ -1,6 +1,6 @@
 use Rattle.std.proofs.Common.{◌∙◌, ap, subst}
 use Rattle.lq_output.specs.Steps.{resolved}
-use Rattle.lq_kernel.specs.Environments.{env_of}
+use Rattle.lq_env.specs.Environments.{env_of}
 use Rattle.lq_script.specs.Syntax.{plain_surface}
 use Rattle.lq_script.specs.Scopes.{scope_of, IsMeant}
 use Rattle.lq_script.proofs.Meanings.{scope_push}

@@ -1,6 +1,6 @@
 use Rattle.std.proofs.Common.{sym, ◌∙◌}
 use Rattle.lq_terms.specs.Terms.{text_of}
-use Rattle.lq_kernel.specs.Environments.{env_of}
+use Rattle.lq_env.specs.Environments.{env_of}
 use Rattle.lq_script.specs.Scopes.{scope_of}
 use Rattle.lq_script.proofs.Meanings.{made_bound, made_constant, meant_nothing}
 use Rattle.lq_script.proofs.statement.meaning.Goals as goal

@@ -1,5 +1,6 @@
 use Rattle.lq_script.proofs.Proving.{HasContext-grown}
 use Rattle.lq_script.proofs.Exactly.{few_hypotheses, exact_nothing, exact_differs, exact_finished}
+use Rattle.lq_script.proofs.Grown.{IsEnv-grown}
 use Rattle.lq_script.proofs.tactics.exact.Goals as goal
 
 pub known-requires-clause-few : goal.known-requires-clause-few
@@ -23,3 +24,9 @@ returns-clause-answer c =
     exact_finished c.args.bank.now c.name.new.self c.args.env.now c.args.hypotheses.now c.in_ok-name.name c.args.text.now c.args.conclusion c.in_ok-name.ensures.grows c.requires.env c.requires.hypotheses c.in_ok-name.ensures.named
     c.requires.conclusion c.in-Some.leaf c.in-Some.kind c.in-Some.ensures c.same.result c.same.ensures c.if-not-same.false c.args.statement c.requires.statement c.requires.reaches c.finished.new.bank c.in_ok-term.term
     c.in_ok-term.ensures.answer
+
+pub known-requires-clause-env : goal.known-requires-clause-env
+known-requires-clause-env c = IsEnv-grown c.args.bank.now c.name.new.self c.args.env.now c.in_ok-name.ensures.grows c.requires.env
+
+pub known-requires-clause-hypotheses : goal.known-requires-clause-hypotheses
+known-requires-clause-hypotheses c = HasContext-grown c.args.bank.now c.name.new.self c.args.hypotheses.now c.in_ok-name.ensures.grows c.requires.hypotheses

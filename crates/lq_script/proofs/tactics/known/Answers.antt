@@ -1,6 +1,6 @@
 use Rattle.std.proofs.Common.{◌<◌, sym, ◌∙◌, refl, arith, rules}
 use Rattle.lq_terms.specs.Terms.{text_of}
-use Rattle.lq_kernel.specs.Environments.{env_of}
+use Rattle.lq_env.specs.Environments.{env_of}
 use Rattle.lq_script.proofs.Proving.{place_inside, hypothesis_read, has_hypothesis, known_hypothesis, known_constant, known_nothing}
 use Rattle.lq_script.proofs.tactics.known.Goals as goal
 

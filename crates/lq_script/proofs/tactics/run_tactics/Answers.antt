@@ -2,12 +2,12 @@ use Rattle.std.proofs.Common.{◌≡◌, [], sym, ◌∙◌, ap, subst, map, Err
 use Rattle.lq_terms.specs.Terms.{tree_of}
 use Rattle.lq_terms.specs.Contexts.{context_of, HasContext}
 use Rattle.lq_terms.proofs.Growth.{Grows-refl, Grows-trans}
-use Rattle.lq_kernel.specs.Environments.{env_of}
+use Rattle.lq_env.specs.Environments.{env_of}
 use Rattle.lq_output.specs.Steps.{goal as open_goal, after_tactic, after_tactics}
 use Rattle.lq_script.specs.Introduced.{Introduced, from_statement}
 use Rattle.lq_script.specs.Syntax.{plain_tactic}
 use Rattle.lq_script.specs.Proofs.{proof_of}
-use Rattle.lq_script.proofs.Grown.{IsPlainEnv-grown}
+use Rattle.lq_script.proofs.Grown.{IsEnv-grown}
 use Rattle.lq_script.proofs.Running.{tells_weaker, tactics_step, tactics_stop, tactics_end, tactic_same, tactic_reaches}
 use Rattle.lq_script.proofs.tactics.run_tactics.Goals as goal
 
@@ -21,7 +21,7 @@ loop-tactic-init c = record {
 }
 
 pub run_tactic-requires-clause-env : goal.run_tactic-requires-clause-env
-run_tactic-requires-clause-env c = IsPlainEnv-grown c.args.bank.now c.loop-tactic.bank c.args.env.now c.loop-tactic.invariant.grown c.requires.env
+run_tactic-requires-clause-env c = IsEnv-grown c.args.bank.now c.loop-tactic.bank c.args.env.now c.loop-tactic.invariant.grown c.requires.env
 
 pub returns-in-Err-clause-answer : goal.returns-in-Err-clause-answer
 returns-in-Err-clause-answer c =

@@ -1,6 +1,6 @@
 use Rattle.std.proofs.Common.{◌≡◌, [], map, drop}
 use Rattle.lq_terms.specs.Terms.{Grows, tree_of}
-use Rattle.lq_kernel.specs.Environments.{env_of}
+use Rattle.lq_env.specs.Environments.{env_of}
 use Rattle.lq_output.specs.Steps.{goal as open_goal, after_tactics}
 use Rattle.lq_script.specs.Syntax.{plain_tactic}
 use Rattle.lq_script.specs.Proofs.{proof_of, HasProof, Reaches}

@@ -1,6 +1,6 @@
 use Rattle.std.proofs.Common.{sym, ◌∙◌}
 use Rattle.std.specs.Prelude.{string_bytes}
-use Rattle.lq_kernel.specs.Environments.{env_of}
+use Rattle.lq_env.specs.Environments.{env_of}
 use Rattle.lq_script.proofs.Moving.{proof_goes, proof_misplaced}
 use Rattle.lq_script.proofs.session.Session.run_proof.Goals as goal
 
