@@ -2,4 +2,8 @@
 #![tactic(auto)]
 
 #[cfg(test)]
-mod kernel;
+mod asks;
+#[cfg(test)]
+mod rows;
+#[cfg(test)]
+mod told;

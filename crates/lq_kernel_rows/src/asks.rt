@@ -1,0 +1,1 @@
+//! What rows ask of the kernel.

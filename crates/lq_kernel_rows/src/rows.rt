@@ -1,0 +1,1 @@
+//! Types, checks, sorts, and each refusal with what it carries.
