@@ -4,6 +4,8 @@
 #[cfg(test)]
 mod asks;
 #[cfg(test)]
+mod fixture;
+#[cfg(test)]
 mod rows;
 #[cfg(test)]
 mod told;
