@@ -1,10 +1,10 @@
 //! What rows ask of the kernel.
 
-ghost use Rattle.std.specs.Prelude.{◌≡◌, ◌<◌, [], IfOk, OnOk};
-ghost use Rattle.lq_terms.specs.Terms.{Grows};
+ghost use Rattle.std.specs.Prelude.{◌≡◌, ◌<◌, IfOk, IfErr};
+ghost use Rattle.lq_terms.specs.Terms.{HasTerm, Grows};
 ghost use Rattle.lq_env.specs.Environments.{IsEnv};
 ghost use Rattle.lq_kernel.specs.Closed.{IsScoped, IsContext};
-ghost use Rattle.lq_kernel_rows.specs.Told.{HasFound};
+ghost use Rattle.lq_kernel_rows.specs.Told.{HasFault};
 
 use crate::fixture::{Assumed, Started, scoped, start};
 use crate::told::{Told, is_told, is_written};
@@ -41,20 +41,7 @@ pub(crate) enum Answer<'a> {
     Refused(Told<'a>),
 }
 
-/// An answer of the kernel.
-#[derive(Clone, Copy)]
-pub(crate) enum Found {
-    /// A type.
-    Type(TermId),
-    /// The term has the type.
-    Fine,
-    /// A sort.
-    Sort(Sort),
-    /// A refusal.
-    Refused(KernelFault),
-}
-
-/// The kernel's answer about the type of a term.
+/// The type of a term by the kernel.
 #[tactic(auto, using(crate::proofs::Faults::refusals))]
 fn inferred<L: Ledger>(
     work: &mut Work<'_, '_>,
@@ -62,22 +49,20 @@ fn inferred<L: Ledger>(
     context: &Context,
     term: TermId,
     steps: &mut Steps<L>,
-) -> Found
+) -> Result<TermId, KernelFault>
     requires term { IsScoped work.old.bank.now 0 term }
     requires env { IsEnv work.old.bank.now env.now }
     requires context { IsContext work.old.bank.now context.now }
-    ensures has { HasFound work.new.bank.now result }
+    ensures has { IfOk result (HasTerm work.new.bank.now) }
+    ensures fault { IfErr result (HasFault work.new.bank.now) }
     ensures same_bank { work.new.bank.ghost_name ≡ work.old.bank.ghost_name }
     ensures same_ticks { work.new.ticks.ghost_name ≡ work.old.ticks.ghost_name }
     ensures grows { Grows work.old.bank.now work.new.bank.now }
 {
-    match infer(work, env, context, term, steps) {
-        Ok(kind) => Found::Type(kind),
-        Err(fault) => Found::Refused(fault),
-    }
+    infer(work, env, context, term, steps)
 }
 
-/// The kernel's answer whether a term has a type.
+/// Whether a term has a type by the kernel.
 #[tactic(auto, using(crate::proofs::Faults::refusals))]
 fn checked<L: Ledger>(
     work: &mut Work<'_, '_>,
@@ -86,23 +71,20 @@ fn checked<L: Ledger>(
     term: TermId,
     wanted: TermId,
     steps: &mut Steps<L>,
-) -> Found
+) -> Result<(), KernelFault>
     requires term { IsScoped work.old.bank.now 0 term }
     requires wanted { IsScoped work.old.bank.now 0 wanted }
     requires env { IsEnv work.old.bank.now env.now }
     requires context { IsContext work.old.bank.now context.now }
-    ensures has { HasFound work.new.bank.now result }
+    ensures fault { IfErr result (HasFault work.new.bank.now) }
     ensures same_bank { work.new.bank.ghost_name ≡ work.old.bank.ghost_name }
     ensures same_ticks { work.new.ticks.ghost_name ≡ work.old.ticks.ghost_name }
     ensures grows { Grows work.old.bank.now work.new.bank.now }
 {
-    match check(work, env, context, term, wanted, steps) {
-        Ok(()) => Found::Fine,
-        Err(fault) => Found::Refused(fault),
-    }
+    check(work, env, context, term, wanted, steps)
 }
 
-/// The kernel's answer about the sort of a term.
+/// The sort of a term by the kernel.
 #[tactic(auto, using(crate::proofs::Faults::refusals))]
 fn sorted<L: Ledger>(
     work: &mut Work<'_, '_>,
@@ -110,99 +92,111 @@ fn sorted<L: Ledger>(
     context: &Context,
     term: TermId,
     steps: &mut Steps<L>,
-) -> Found
+) -> Result<Sort, KernelFault>
     requires term { IsScoped work.old.bank.now 0 term }
     requires env { IsEnv work.old.bank.now env.now }
     requires context { IsContext work.old.bank.now context.now }
-    ensures has { HasFound work.new.bank.now result }
+    ensures fault { IfErr result (HasFault work.new.bank.now) }
     ensures same_bank { work.new.bank.ghost_name ≡ work.old.bank.ghost_name }
     ensures same_ticks { work.new.ticks.ghost_name ≡ work.old.ticks.ghost_name }
     ensures grows { Grows work.old.bank.now work.new.bank.now }
 {
-    match sort_of(work, env, context, term, steps) {
-        Ok(sort) => Found::Sort(sort),
-        Err(fault) => Found::Refused(fault),
-    }
+    sort_of(work, env, context, term, steps)
 }
 
-/// Asks for the type of a term, or for its sort.
-#[tactic(auto, using(crate::proofs::Growing::growing))]
-fn ask_term<L: Ledger>(
-    bank: &mut Bank<'_>,
-    ticks: &mut Ticks,
-    env: &Env,
-    context: &Context,
-    words: &str,
-    is_sort: bool,
-    steps: &mut Steps<L>,
-) -> Result<Found, RowFault>
-    requires env { IsEnv bank.old env.now }
-    requires context { IsContext bank.old context.now }
-    ensures has { IfOk result (HasFound bank.new) }
-    ensures grows { Grows bank.old bank.new }
+/// Whether a type is the answer that is written so.
+fn is_type(bank: &mut Bank<'_>, kind: TermId, answer: Answer<'_>) -> Result<bool, RowFault>
+    requires { HasTerm bank.old kind }
 {
-    let term = scoped(bank, words)?;
-    let mut work = Work { bank, ticks };
-    if is_sort {
-        return Ok(sorted(&mut work, env, context, term, steps));
-    }
-    Ok(inferred(&mut work, env, context, term, steps))
-}
-
-/// Asks whether a term has a type.
-#[tactic(auto, using(crate::proofs::Growing::growing))]
-fn ask_check<L: Ledger>(
-    bank: &mut Bank<'_>,
-    ticks: &mut Ticks,
-    env: &Env,
-    context: &Context,
-    words: &str,
-    wanted: &str,
-    steps: &mut Steps<L>,
-) -> Result<Found, RowFault>
-    requires env { IsEnv bank.old env.now }
-    requires context { IsContext bank.old context.now }
-    ensures has { IfOk result (HasFound bank.new) }
-    ensures grows { Grows bank.old bank.new }
-{
-    let term = scoped(bank, words)?;
-    let wanted = scoped(bank, wanted)?;
-    let mut work = Work { bank, ticks };
-    Ok(checked(&mut work, env, context, term, wanted, steps))
-}
-
-/// Whether an answer is the one that is written so.
-fn is_answer(bank: &mut Bank<'_>, found: Found, answer: Answer<'_>) -> Result<bool, RowFault>
-    requires { HasFound bank.old found }
-    ensures grows { Grows bank.old bank.new }
-{
-    match (found, answer) {
-        (Found::Type(kind), Answer::Type(words)) => is_written(bank, kind, words),
-        (Found::Fine, Answer::Fine) => Ok(true),
-        (Found::Sort(sort), Answer::Sort(wanted)) => Ok(sort == wanted),
-        (Found::Refused(fault), Answer::Refused(told)) => is_told(bank, fault, told),
+    match answer {
+        Answer::Type(words) => is_written(bank, kind, words),
         _ => Ok(false),
     }
 }
 
-/// The kernel's answer to what is asked.
-fn put<L: Ledger>(
+/// Whether a refusal is the answer that is written so.
+fn is_refusal(bank: &mut Bank<'_>, fault: KernelFault, answer: Answer<'_>) -> Result<bool, RowFault>
+    requires { HasFault bank.old fault }
+{
+    match answer {
+        Answer::Refused(told) => is_told(bank, fault, told),
+        _ => Ok(false),
+    }
+}
+
+/// Whether the type of a term is that answer.
+#[tactic(auto, using(crate::proofs::Growing::growing))]
+fn infers<L: Ledger>(
     bank: &mut Bank<'_>,
     ticks: &mut Ticks,
     env: &Env,
     context: &Context,
-    ask: Ask<'_>,
+    words: &str,
+    answer: Answer<'_>,
     steps: &mut Steps<L>,
-) -> Result<Found, RowFault>
+) -> Result<bool, RowFault>
     requires env { IsEnv bank.old env.now }
     requires context { IsContext bank.old context.now }
-    ensures has { IfOk result (HasFound bank.new) }
-    ensures grows { Grows bank.old bank.new }
 {
-    match ask {
-        Ask::Infer(words) => ask_term(bank, ticks, env, context, words, false, steps),
-        Ask::SortOf(words) => ask_term(bank, ticks, env, context, words, true, steps),
-        Ask::Check(words, wanted) => ask_check(bank, ticks, env, context, words, wanted, steps),
+    let term = scoped(bank, words)?;
+    let mut work = Work {
+        bank: &mut *bank,
+        ticks,
+    };
+    match inferred(&mut work, env, context, term, steps) {
+        Ok(kind) => is_type(bank, kind, answer),
+        Err(fault) => is_refusal(bank, fault, answer),
+    }
+}
+
+/// Whether a term is checked with that answer.
+#[tactic(auto, using(crate::proofs::Growing::growing))]
+fn checks<L: Ledger>(
+    bank: &mut Bank<'_>,
+    ticks: &mut Ticks,
+    env: &Env,
+    context: &Context,
+    words: [&str; 2],
+    answer: Answer<'_>,
+    steps: &mut Steps<L>,
+) -> Result<bool, RowFault>
+    requires env { IsEnv bank.old env.now }
+    requires context { IsContext bank.old context.now }
+{
+    let term = scoped(bank, words[0])?;
+    let wanted = scoped(bank, words[1])?;
+    let mut work = Work {
+        bank: &mut *bank,
+        ticks,
+    };
+    match checked(&mut work, env, context, term, wanted, steps) {
+        Ok(()) => Ok(matches!(answer, Answer::Fine)),
+        Err(fault) => is_refusal(bank, fault, answer),
+    }
+}
+
+/// Whether the sort of a term is that answer.
+#[tactic(auto, using(crate::proofs::Growing::growing))]
+fn sorts<L: Ledger>(
+    bank: &mut Bank<'_>,
+    ticks: &mut Ticks,
+    env: &Env,
+    context: &Context,
+    words: &str,
+    answer: Answer<'_>,
+    steps: &mut Steps<L>,
+) -> Result<bool, RowFault>
+    requires env { IsEnv bank.old env.now }
+    requires context { IsContext bank.old context.now }
+{
+    let term = scoped(bank, words)?;
+    let mut work = Work {
+        bank: &mut *bank,
+        ticks,
+    };
+    match sorted(&mut work, env, context, term, steps) {
+        Ok(sort) => Ok(matches!(answer, Answer::Sort(wanted) if wanted == sort)),
+        Err(fault) => is_refusal(bank, fault, answer),
     }
 }
 
@@ -227,8 +221,24 @@ fn gives<L: Ledger>(
         context,
     } = start(alloc, assumed)?;
     let mut ticks = Ticks::new(budget);
-    let found = put(&mut bank, &mut ticks, &env, &context, ask, &mut steps)?;
-    Ok(ticks.left == left && is_answer(&mut bank, found, answer)?)
+    let is = match ask {
+        Ask::Infer(term) => infers(
+            &mut bank, &mut ticks, &env, &context, term, answer, &mut steps,
+        )?,
+        Ask::Check(term, kind) => checks(
+            &mut bank,
+            &mut ticks,
+            &env,
+            &context,
+            [term, kind],
+            answer,
+            &mut steps,
+        )?,
+        Ask::SortOf(term) => sorts(
+            &mut bank, &mut ticks, &env, &context, term, answer, &mut steps,
+        )?,
+    };
+    Ok(is && ticks.left == left)
 }
 
 /// The same for a ledger of its own.

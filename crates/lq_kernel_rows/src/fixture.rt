@@ -4,7 +4,7 @@ ghost use Rattle.std.specs.Prelude.{IfOk, OnOk};
 ghost use Rattle.lq_terms.specs.Terms.{HasName, Grows};
 ghost use Rattle.lq_terms.specs.Telling.{IsClosed};
 ghost use Rattle.lq_env.specs.Environments.{IsEnv};
-ghost use Rattle.lq_kernel.specs.Closed.{IsScoped, IsBody, IsContext};
+ghost use Rattle.lq_kernel.specs.Closed.{IsScoped, IsBody, IsHypothesis, IsContext};
 
 use lq_env::Env;
 use lq_terms::{Bank, Context, Hypothesis, NameId, TermId};
@@ -49,6 +49,18 @@ fn body(bank: &mut Bank<'_>, words: Option<&str>) -> Result<Option<TermId>, RowF
     }
 }
 
+/// One more hypothesis, which lies in the bank.
+#[tactic(auto, using(crate::proofs::Growing::pushed))]
+fn push(bank: &Bank<'_>, context: &mut Context, hypothesis: Hypothesis) -> Result<(), RowFault>
+    requires context { IsContext bank.now context.old }
+    requires hypothesis { IsHypothesis bank.now hypothesis }
+    ensures { OnOk result (IsContext bank.now context.new) }
+{
+    let _bank = bank;
+    context.push(hypothesis)?;
+    Ok(())
+}
+
 /// One more hypothesis.
 #[tactic(auto, using(crate::proofs::Growing::growing))]
 fn assume(bank: &mut Bank<'_>, context: &mut Context, assumed: Assumed<'_>) -> Result<(), RowFault>
@@ -59,8 +71,7 @@ fn assume(bank: &mut Bank<'_>, context: &mut Context, assumed: Assumed<'_>) -> R
     let kind = scoped(bank, assumed.2)?;
     let body = body(bank, assumed.1)?;
     let name = bank.name(assumed.0)?;
-    context.push(Hypothesis { name, body, kind })?;
-    Ok(())
+    push(bank, context, Hypothesis { name, body, kind })
 }
 
 /// The hypotheses that are written so, in order.
