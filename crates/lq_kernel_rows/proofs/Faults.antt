@@ -10,7 +10,7 @@ pub has_fault : {A : Type 0} (bank : Terms) (e : KernelFault) (f : ℕ → Kerne
 has_fault bank (KernelFault.Unbound x) f b l r = tt
 has_fault bank (KernelFault.NotAProduct t) f b l r = r.0
 has_fault bank (KernelFault.NotASort t) f b l r = r.0
-has_fault bank (KernelFault.Mismatch t u) f b l r = (r.0, r.1.0)
+has_fault bank (KernelFault.Mismatch t u) f b l r = (r.0, r.1)
 has_fault bank KernelFault.NoSortAbove f b l r = tt
 has_fault bank (KernelFault.HasVariable n) f b l r = tt
 has_fault bank KernelFault.StepsOut f b l r = tt
