@@ -222,21 +222,14 @@ const UNSORTED: [(&str, Told<'static>, u32); 5] = [
     ("@ ?0 'x", Told::HasVariable(0), 2),
 ];
 
-/// Terms over one hypothesis of the name `h`, or over `H` with that body and `h : H`, at the limits of size and depth.
-const LARGE: [(Option<&str>, &str, &str, Answer<'static>, u32); 12] = [
+/// The types of a hypothesis `h`, terms with it, the answers, and the prices: at the limits of size and depth.
+const LARGE: [(&str, &str, Answer<'static>, u32); 7] = [
     // 1,048,575 nodes are too many, 524,287 are not.
-    (None, "2^19 Prop", "'h", Answer::Refused(Told::TooLarge), 1),
-    (None, "2^18 Prop", "'h", Answer::Type("2^18 Prop"), 1),
+    ("2^19 Prop", "'h", Answer::Refused(Told::TooLarge), 1),
+    ("2^18 Prop", "'h", Answer::Type("2^18 Prop"), 1),
     // Depths of 2,001 and 2,000.
+    ("->2000 Prop Prop", "'h", Answer::Refused(Told::TooDeep), 1),
     (
-        None,
-        "->2000 Prop Prop",
-        "'h",
-        Answer::Refused(Told::TooDeep),
-        1,
-    ),
-    (
-        None,
         "->1999 Prop Prop",
         "'h",
         Answer::Type("->1999 Prop Prop"),
@@ -244,7 +237,6 @@ const LARGE: [(Option<&str>, &str, &str, Answer<'static>, u32); 12] = [
     ),
     // Both: the size counts.
     (
-        None,
         "->2000 Prop 2^19 Prop",
         "'h",
         Answer::Refused(Told::TooLarge),
@@ -252,55 +244,47 @@ const LARGE: [(Option<&str>, &str, &str, Answer<'static>, u32); 12] = [
     ),
     // The type of a function is one deeper.
     (
-        None,
         "->1999 Prop Prop",
         "fun nat 'h",
         Answer::Refused(Told::TooDeep),
         3,
     ),
     (
-        None,
         "->1998 Prop Prop",
         "fun nat 'h",
         Answer::Type("-> nat ->1998 Prop Prop"),
         3,
     ),
+];
+
+/// The bodies of a hypothesis `H : Type 0`, terms with an `h : H`, the answers, and the prices.
+const HIDDEN: [(&str, &str, Answer<'static>, u32); 5] = [
     // A weak head form that a rule needs.
+    ("2^19 Prop", "@ 'h ?0", Answer::Refused(Told::TooLarge), 3),
     (
-        Some("2^19 Prop"),
-        "Type.0",
-        "@ 'h ?0",
-        Answer::Refused(Told::TooLarge),
-        3,
-    ),
-    (
-        Some("->2000 Prop Prop"),
-        "Type.0",
+        "->2000 Prop Prop",
         "@ 'h ?0",
         Answer::Refused(Told::TooDeep),
         3,
     ),
     (
-        Some("->1999 Prop Prop"),
-        "Type.0",
+        "->1999 Prop Prop",
         "@ 'h True",
         Answer::Type("->1998 Prop Prop"),
         5,
     ),
-    // A comparison has no limits.
+    // A comparison has no limits: 4, two contractions, and a tick for each of 4,001 and of 1,048,575 nodes.
     (
-        Some("->2000 Prop Prop"),
-        "Type.0",
+        "->2000 Prop Prop",
         "let 'h 'H nat:0",
         Answer::Type("nat"),
-        5,
+        4007,
     ),
     (
-        Some("2^19 Prop"),
-        "Type.0",
+        "2^19 Prop",
         "let 'h 'H nat:0",
         Answer::Type("nat"),
-        5,
+        1_048_581,
     ),
 ];
 
@@ -418,6 +402,27 @@ fn sorts(rt: HostRuntime) -> Result<(), Fail> {
             ),
             Ok(None),
             "{term}"
+        );
+    }
+    Ok(())
+}
+
+#[test]
+fn limits(rt: HostRuntime) -> Result<(), Fail> {
+    for (kind, term, answer, price) in LARGE {
+        let context = [("h", None, kind)];
+        assert_eq!(rt;
+            differs_at(rt.alloc(), &context, Ask::Infer(term), answer, price),
+            Ok(None),
+            "{term} over {kind}"
+        );
+    }
+    for (body, term, answer, price) in HIDDEN {
+        let context = [("H", Some(body), "Type.0"), ("h", None, "'H")];
+        assert_eq!(rt;
+            differs_at(rt.alloc(), &context, Ask::Infer(term), answer, price),
+            Ok(None),
+            "{term} over {body}"
         );
     }
     Ok(())
