@@ -242,7 +242,7 @@ fn gives<L: Ledger>(
 }
 
 /// The same for a ledger of its own.
-fn gives_once(
+pub(crate) fn gives_once(
     alloc: Global,
     assumed: &[Assumed<'_>],
     ask: Ask<'_>,

@@ -4,6 +4,8 @@
 #[cfg(test)]
 mod asks;
 #[cfg(test)]
+mod deep;
+#[cfg(test)]
 mod fixture;
 #[cfg(test)]
 mod rows;
