@@ -1,6 +1,6 @@
 -- A family that is being declared counts by what is within the limits of its type: where two types are both
 -- within them and one, or pass the same limit, the kernel's work is the same.
-use Rattle.std.proofs.Common.{◌≡◌, ◌∙◌, ℕ, zero, suc, refl, ap, ap₂, List, [], ◌∷◌, ◌++◌, Option, Some, None, Bool, true, false}
+use Rattle.std.proofs.Common.{◌≡◌, ℕ, zero, suc, refl, ap, ap₂, List, [], ◌∷◌, ◌++◌, Option, Some, None, Bool, true, false}
 use Rattle.std.proofs.Math.Path.{fun_ext}
 use Rattle.std.specs.Prelude.{if◌then◌else◌}
 use Rattle.lq_trees.specs.declared.Sort.{Sort as Universe}
@@ -9,8 +9,8 @@ use Rattle.lq_trees.specs.Tree.Tree.{Rel, Var, Sort, Prod, Lam, Let, App, Const,
 use Rattle.lq_trees.specs.Change.{close}
 use Rattle.lq_trees.specs.Change.{subst as put_in}
 use Rattle.lq_trees.specs.Fresh.{fresh, opened, under, under_let}
-use Rattle.lq_trees.specs.Ticks.{Paid, gives, fails, tick, ◌>>=◌}
-use Rattle.lq_trees.specs.Rules.{Counts, Arguments, Rules}
+use Rattle.lq_trees.specs.Ticks.{gives, fails, tick, ◌>>=◌}
+use Rattle.lq_trees.specs.Rules.{Counts, Arguments}
 use Rattle.lq_calculus.specs.Contraction.{whnf}
 use Rattle.lq_calculus.specs.Declarations.{Env as Environment, Entry, Family, arity, lookup, delta_in, family_in, counts_of, rule_arguments, rules_of}
 use Rattle.lq_calculus.specs.Typing.{product_sort, first_big}

@@ -8,7 +8,7 @@ use Rattle.lq_trees.specs.Tree.{Name, Tree, Trees, same_name}
 use Rattle.lq_trees.specs.Tree.Tree.{Rel, Var, Sort, Prod, Lam, Let, App, Const, Ind, Ctor, Elim, Evar}
 use Rattle.lq_trees.specs.Fresh.{is_listed}
 use Rattle.lq_trees.specs.Hypotheses.{HoldsOnly, EachHoldsOnly}
-use Rattle.lq_trees.specs.Ticks.{gives, fails, ◌>>=◌, done, failed, ComesTo}
+use Rattle.lq_trees.specs.Ticks.{gives, fails, ◌>>=◌, done, ComesTo}
 use Rattle.lq_trees.proofs.Outcomes.{comes_gives, comes_fails}
 use Rattle.lq_terms.specs.declared.nodes.NameId.{NameId}
 use Rattle.lq_terms.specs.declared.nodes.TermId.{TermId}

@@ -1,11 +1,11 @@
 -- The checks of a family's constructors, one after the other.
-use Rattle.std.proofs.Common.{◌≡◌, ◌∙◌, ◌+◌, ◌<◌, ◌≤◌, ℕ, zero, suc, refl, sym, ap, ap₂, subst, arith, append_assoc, append-nil, List, [], ◌∷◌, ◌++◌, drop, length, get_or, Option, Some, None, Result, Ok, Err, Bool, true, false, ◌&&◌}
+use Rattle.std.proofs.Common.{◌≡◌, ◌∙◌, ◌+◌, ◌<◌, ◌≤◌, ℕ, refl, sym, ap, subst, arith, append_assoc, append-nil, List, [], ◌∷◌, ◌++◌, drop, length, get_or, Some, None, Result, Ok, Err, Bool, true, false}
 use Rattle.std.proofs.lemmas.List.{drop_more, drop_all, length-append}
 use Rattle.std.specs.Prelude.{IfErr}
 use Rattle.std.specs.Result.{IsErrAnd}
 use Rattle.lq_trees.specs.declared.Sort.{Sort as Universe}
 use Rattle.lq_trees.specs.Tree.{Name, Tree, Context}
-use Rattle.lq_trees.specs.Ticks.{Paid, gives, fails, cut, tick, ◌>>=◌, done, failed, within, ComesTo}
+use Rattle.lq_trees.specs.Ticks.{gives, fails, cut, tick, ◌>>=◌, done, failed, within, ComesTo}
 use Rattle.lq_trees.proofs.TickLaws.{bind_gives}
 use Rattle.lq_trees.proofs.Outcomes.{comes_gives, comes_fails}
 use Rattle.lq_terms.specs.declared.nodes.NameId.{NameId}

@@ -1,12 +1,11 @@
 -- How the declaration of a family goes on, part by part.
-use Rattle.std.proofs.Common.{◌≡◌, ◌∙◌, ◌<◌, ℕ, refl, sym, ap, subst, List, [], ◌∷◌, ◌++◌, map, Option, Some, None, Result, Ok, Err, Bool, true, false}
+use Rattle.std.proofs.Common.{◌≡◌, ◌∙◌, ℕ, refl, sym, ap, subst, List, [], ◌∷◌, ◌++◌, map, Option, Some, None, Result, Ok, Err, Bool, true, false}
 use Rattle.std.proofs.Math.Path.{fun_ext}
-use Rattle.std.specs.Result.{IsErrAnd}
 use Rattle.std.specs.Prelude.{OnOk, OnErr}
 use Rattle.lq_trees.specs.declared.Sort.{Sort as Universe}
 use Rattle.lq_trees.specs.Tree.{Name, Tree, Context}
 use Rattle.lq_trees.specs.Fresh.{is_listed}
-use Rattle.lq_trees.specs.Ticks.{gives, fails, ◌>>=◌, done, failed, ComesTo}
+use Rattle.lq_trees.specs.Ticks.{gives, ◌>>=◌, done, failed, ComesTo}
 use Rattle.lq_trees.proofs.TickLaws.{bind_bind}
 use Rattle.lq_trees.proofs.Outcomes.{comes_gives, comes_fails, comes_is}
 use Rattle.lq_terms.specs.declared.nodes.NameId.{NameId}
@@ -20,12 +19,11 @@ use Rattle.lq_env.specs.declared.environment.Declared.{Declared}
 use Rattle.lq_env.specs.Families.{Refuses as EnvRefuses}
 use Rattle.lq_env.specs.Environments.{Adds, IsEnv, env_of, with_arity, fault_in}
 use Rattle.lq_env.proofs.Entries.{not_taken}
-use Rattle.lq_env.specs.Inductive.{Passes}
 use Rattle.lq_kernel.specs.declared.faults.KernelFault.{KernelFault}
 use Rattle.lq_kernel.specs.Answers.{Refuses, Checks, Declares}
 use Rattle.lq_kernel.specs.Steps.{KnowsAll, refusal}
-use Rattle.lq_kernel.specs.Declaring.{constructors_work, from_sorts, from_tests, LooksOver, IsFound, FindsSmall, ChecksFamily, AddsFamily}
-use Rattle.lq_kernel.proofs.Goes.{Goes, goes_then, goes_on, goes_same, refuses_goes, refuses_first, err_out}
+use Rattle.lq_kernel.specs.Declaring.{constructors_work, from_sorts, from_tests, LooksOver, FindsSmall, ChecksFamily, AddsFamily}
+use Rattle.lq_kernel.proofs.Goes.{Goes, goes_then, goes_on, goes_same, refuses_goes, refuses_first}
 use Rattle.lq_kernel.proofs.Grown.{IsEnv-grown}
 use Rattle.lq_kernel.proofs.CallLaws.{knows_all_stop}
 use Rattle.lq_kernel.proofs.ArityLaws.{arity_alike}

@@ -1,5 +1,5 @@
 -- A family as it is offered, and what the look at its hypotheses adds to that.
-use Rattle.std.proofs.Common.{◌≡◌, ◌∙◌, ◌<◌, ◌+◌, ℕ, zero, suc, refl, sym, ap, subst, arith, append_assoc, append-nil, ◌⊎◌, inl, inr, List, [], ◌∷◌, ◌++◌, map, length, get_or, Option, Some, None, Result, Ok, Err, Bool, true, false, ◌||◌}
+use Rattle.std.proofs.Common.{◌≡◌, ◌∙◌, ◌<◌, ℕ, zero, suc, refl, sym, ap, subst, arith, append_assoc, append-nil, ◌⊎◌, inl, inr, List, [], ◌∷◌, ◌++◌, map, length, get_or, Option, Some, None, Result, Ok, Err, Bool, true, false, ◌||◌}
 use Rattle.std.proofs.lemmas.List.{map-append}
 use Rattle.std.specs.Prelude.{option_map, OnOk}
 use Rattle.std.specs.List.{AllByRecursion}
@@ -11,17 +11,17 @@ use Rattle.lq_trees.specs.Ticks.{gives, fails, cut, tick, ◌>>=◌}
 use Rattle.lq_terms.specs.declared.nodes.NameId.{NameId}
 use Rattle.lq_terms.specs.declared.nodes.TermId.{TermId}
 use Rattle.lq_terms.specs.declared.nodes.Hypothesis.{Hypothesis}
-use Rattle.lq_terms.specs.Terms.{Terms, HasName, HasTerm, Grows, text_of, tree_of}
+use Rattle.lq_terms.specs.Terms.{Terms, HasName, Grows, text_of, tree_of}
 use Rattle.lq_terms.specs.Contexts.{hypothesis_of, context_of, HasContext}
 use Rattle.lq_calculus.specs.Declarations.{Family as TreeFamily}
 use Rattle.lq_calculus.specs.Checking.{Kernel, known, known_context}
 use Rattle.lq_env.specs.declared.family.Family.{Family}
-use Rattle.lq_env.specs.Families.{HasConstructor, HasFamily, StandsUnder, IsNext, names_behind, IsBehind, IsWritten, IsFamily, constructors_of, family_of}
+use Rattle.lq_env.specs.Families.{HasConstructor, HasFamily, StandsUnder, names_behind, IsBehind, IsWritten, IsFamily, constructors_of, family_of}
 use Rattle.lq_env.proofs.Families.{family_of-grown, HasFamily-grown}
 use Rattle.lq_kernel.specs.declared.faults.KernelFault.{KernelFault}
 use Rattle.lq_kernel.specs.Closed.{IsScoped, IsBody, IsContext}
 use Rattle.lq_kernel.specs.Steps.{KnowsAll}
-use Rattle.lq_kernel.specs.Declaring.{IsOfferedNext, IsOfferedBehind, IsOfferedTree, IsOffered}
+use Rattle.lq_kernel.specs.Declaring.{IsOfferedBehind, IsOfferedTree, IsOffered}
 use Rattle.lq_kernel.proofs.CallLaws.{known_gives}
 use Rattle.lq_kernel.proofs.ConstantLaws.{holds_known}
 use Rattle.lq_kernel.proofs.LookLaws.{names_in}

@@ -1,20 +1,20 @@
 -- Rows of products: their sorts, and those of their domains.
-use Rattle.std.proofs.Common.{◌≡◌, ◌∙◌, ◌+◌, ◌<◌, ◌≤◌, ℕ, zero, suc, refl, sym, ap, subst, arith, append_assoc, append-nil, List, [], ◌∷◌, ◌++◌, drop, length, get_or, Option, Some, None, Result, Ok, Err, Bool, true, false}
+use Rattle.std.proofs.Common.{◌≡◌, ◌∙◌, ◌+◌, ◌<◌, ◌≤◌, ℕ, zero, suc, refl, sym, ap, subst, arith, append_assoc, append-nil, List, [], ◌∷◌, ◌++◌, drop, length, get_or, Option, Some, None, Result, Ok, Err, true, false}
 use Rattle.std.proofs.lemmas.List.{drop_more, drop_all}
 use Rattle.std.specs.Prelude.{OnOk}
 use Rattle.std.specs.Result.{IsErrAnd}
 use Rattle.lq_trees.specs.declared.Sort.{Sort as Universe}
 use Rattle.lq_trees.specs.Tree.{Name, Tree, Context}
-use Rattle.lq_trees.specs.Tree.Tree.{Rel, Var, Sort, Prod, Lam, Let, App, Const, Ind, Ctor, Elim, Evar}
+use Rattle.lq_trees.specs.Tree.Tree.{Sort, Prod}
 use Rattle.lq_trees.specs.Fresh.{fresh, opened, under}
-use Rattle.lq_trees.specs.Ticks.{gives, ◌>>=◌, done, steps_out, ComesTo}
+use Rattle.lq_trees.specs.Ticks.{gives, ◌>>=◌, done, ComesTo}
 use Rattle.lq_trees.proofs.TickLaws.{left_of, within_falls}
 use Rattle.lq_trees.proofs.Outcomes.{comes_gives}
 use Rattle.lq_terms.specs.Terms.{Terms}
 use Rattle.lq_calculus.specs.Contraction.{head_form, contract}
 use Rattle.lq_calculus.specs.Declarations.{Env as Environment, all_proofs}
 use Rattle.lq_calculus.specs.Typing.{product_sort, is_product, is_above, first_big}
-use Rattle.lq_calculus.specs.Checking.{Kernel, fitting, as_sort, needed_form, infer, sort_of, answer_of, row_sorts}
+use Rattle.lq_calculus.specs.Checking.{Kernel, fitting, as_sort, needed_form, infer, sort_of, row_sorts}
 use Rattle.lq_calculus.proofs.ConvSound.{done_gives}
 use Rattle.lq_calculus.proofs.DeclareSound.{gives_answer}
 use Rattle.lq_kernel.specs.declared.faults.KernelFault.{KernelFault}

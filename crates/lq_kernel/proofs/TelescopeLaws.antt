@@ -1,6 +1,6 @@
 -- Looks at and sorts of contexts and constructors, one after the other.
-use Rattle.std.proofs.Common.{◌≡◌, ◌∙◌, ◌+◌, ◌<◌, ◌≤◌, ℕ, zero, suc, refl, sym, ap, ap₂, subst, arith, append_assoc, List, [], ◌∷◌, ◌++◌, map, take, drop, length, get_or, Option, Some, None, Result, Ok, Err, Bool, true, false}
-use Rattle.std.proofs.lemmas.List.{drop_more, drop_all, take_more, take_all}
+use Rattle.std.proofs.Common.{◌≡◌, ◌∙◌, ◌+◌, ◌<◌, ◌≤◌, ℕ, zero, suc, sym, ap, subst, List, [], ◌∷◌, ◌++◌, map, take, drop, length, get_or, Result, Ok, Err}
+use Rattle.std.proofs.lemmas.List.{drop_more, drop_all, take_more}
 use Rattle.std.specs.Result.{IsErrAnd}
 use Rattle.lq_trees.specs.declared.Sort.{Sort as Universe}
 use Rattle.lq_trees.specs.Tree.{Name, Tree, Context, Hypothesis as TreeHypothesis}
@@ -9,10 +9,10 @@ use Rattle.lq_trees.proofs.Outcomes.{comes_gives}
 use Rattle.lq_terms.specs.declared.nodes.NameId.{NameId}
 use Rattle.lq_terms.specs.declared.nodes.TermId.{TermId}
 use Rattle.lq_terms.specs.declared.nodes.Hypothesis.{Hypothesis}
-use Rattle.lq_terms.specs.Terms.{Terms, text_of, tree_of}
+use Rattle.lq_terms.specs.Terms.{Terms, tree_of}
 use Rattle.lq_terms.specs.Contexts.{hypothesis_of, context_of}
 use Rattle.lq_calculus.specs.Declarations.{Env as Environment}
-use Rattle.lq_calculus.specs.Checking.{Kernel, unbound, strange, known, known_context, sort_of, sorts_of}
+use Rattle.lq_calculus.specs.Checking.{Kernel, unbound, known, known_context, sort_of, sorts_of}
 use Rattle.lq_env.specs.Families.{constructors_of}
 use Rattle.lq_kernel.specs.declared.faults.KernelFault.{KernelFault}
 use Rattle.lq_kernel.specs.Answers.{Refuses, Checks}

@@ -40,7 +40,7 @@ fn known_alone(bank: &Bank<'_>, kind: TermId, body: TermId) -> Result<(), Kernel
 }
 
 /// Refuses a constant, in this order: a taken name, a hypothesis in its type or in its body, a type without a
-/// sort, a body that has not the type.
+/// sort, a body that has not the type. Where it passes, the terms that were made to find out are dropped.
 fn check_constant<L: Ledger>(
     work: &mut Work<'_, '_>,
     env: &Env,
@@ -67,8 +67,11 @@ fn check_constant<L: Ledger>(
     }
     known_alone(work.bank, kind, body)?;
     let empty = Context::new(work.bank.allocator());
+    let mark = work.bank.mark();
     sort_in(work, env, &empty, kind, steps)?;
-    check_in(work, env, &empty, body, kind, steps)
+    check_in(work, env, &empty, body, kind, steps)?;
+    work.bank.undo(mark);
+    Ok(())
 }
 
 /// Declares a constant that passes the checks. After a refusal the environment is as before.

@@ -71,7 +71,8 @@ fn check_inside<L: Ledger>(
 }
 
 /// The checks of a family: its names, the sorts of its parameters and indices, its constructors. It answers
-/// whether the family, if it lies in Prop, is eliminated into every sort.
+/// whether the family, if it lies in Prop, is eliminated into every sort. Where it passes, the terms that were made to find
+/// out are dropped.
 fn check_family<L: Ledger>(
     work: &mut Work<'_, '_>,
     env: &mut Env,
@@ -92,8 +93,11 @@ fn check_family<L: Ledger>(
 {
     let telescope = telescope(work.bank.allocator(), family)?;
     look_over(work.bank, env, family, &telescope)?;
+    let mark = work.bank.mark();
     sorts_of(work, env, &telescope, steps)?;
-    check_inside(work, env, family, steps)
+    let small = check_inside(work, env, family, steps)?;
+    work.bank.undo(mark);
+    Ok(small)
 }
 
 /// Whether a family is eliminated into every sort.

@@ -1,5 +1,5 @@
-use Rattle.std.proofs.Common.{◌≡◌, ◌∙◌, ap, subst, arith}
-use Rattle.lq_terms.specs.Terms.{IsTerm, text_of}
+use Rattle.std.proofs.Common.{arith}
+use Rattle.lq_terms.specs.Terms.{text_of}
 use Rattle.lq_terms.proofs.Growth.{Grows-refl, Grows-trans, IsTerm-grown}
 use Rattle.lq_kernel.proofs.Oversized.{sort_made, chained_made}
 use Rattle.lq_kernel.proofs.arities.deep_type.Goals as goal

@@ -1,7 +1,5 @@
-use Rattle.std.proofs.Common.{ap}
 use Rattle.lq_terms.specs.Terms.{text_of}
 use Rattle.lq_calculus.specs.Declarations.{family_type}
-use Rattle.lq_calculus.specs.Checking.{fitting}
 use Rattle.lq_env.specs.Families.{family_of}
 use Rattle.lq_kernel.proofs.Oversized.{type_closed, large_closed, deep_closed, large_counts, deep_counts}
 use Rattle.lq_kernel.proofs.arities.family_arity.Goals as goal

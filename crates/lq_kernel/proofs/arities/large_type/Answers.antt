@@ -1,5 +1,5 @@
-use Rattle.std.proofs.Common.{◌≡◌, ◌∙◌, ap, subst, arith}
-use Rattle.lq_terms.specs.Terms.{IsTerm, text_of}
+use Rattle.std.proofs.Common.{arith}
+use Rattle.lq_terms.specs.Terms.{text_of}
 use Rattle.lq_terms.proofs.Growth.{Grows-refl, Grows-trans}
 use Rattle.lq_kernel.proofs.Oversized.{sort_made, doubled_made}
 use Rattle.lq_kernel.proofs.arities.large_type.Goals as goal

@@ -1,7 +1,6 @@
-use Rattle.std.proofs.Common.{◌≡◌, ◌∙◌, ◌∷◌, [], ◌++◌, refl, sym, ap, subst, arith, Ok, Err}
+use Rattle.std.proofs.Common.{sym, subst, arith}
 use Rattle.lq_trees.specs.Ticks.{done, ComesTo}
 use Rattle.lq_terms.specs.Terms.{HasName, text_of, tree_of}
-use Rattle.lq_calculus.specs.Declarations.{constant, names_of}
 use Rattle.lq_calculus.specs.Checking.{declare_constant}
 use Rattle.lq_env.specs.Environments.{IsEnv, env_of}
 use Rattle.lq_env.proofs.Grown.{IsClosed-grown}

@@ -1,11 +1,11 @@
-use Rattle.std.proofs.Common.{◌≡◌, ◌∙◌, ◌∷◌, [], sym, ap, subst, Ok, Err}
+use Rattle.std.proofs.Common.{◌∙◌, ◌∷◌, [], subst, Ok, Err}
 use Rattle.lq_terms.specs.Terms.{tree_of}
 use Rattle.lq_terms.specs.Contexts.{context_of}
 use Rattle.lq_calculus.specs.Checking.{known}
 use Rattle.lq_kernel.specs.Steps.{Knows, KnowsAll}
 use Rattle.lq_kernel.proofs.Goes.{err_out}
 use Rattle.lq_kernel.proofs.LookLaws.{names_in}
-use Rattle.lq_kernel.proofs.CallLaws.{known_next, known_longer, knows_next, knows_one, knows_all_by}
+use Rattle.lq_kernel.proofs.CallLaws.{known_longer, knows_next, knows_one, knows_all_by}
 use Rattle.lq_kernel.proofs.constants.known_alone.Goals as goal
 
 pub returns-in_err-known : goal.returns-in_err-known

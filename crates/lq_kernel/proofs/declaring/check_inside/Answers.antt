@@ -1,4 +1,4 @@
-use Rattle.std.proofs.Common.{◌≡◌, ◌∙◌, refl, ap₂, subst, arith, Ok}
+use Rattle.std.proofs.Common.{refl, ap₂, subst, arith, Ok}
 use Rattle.lq_terms.specs.Terms.{text_of, tree_of}
 use Rattle.lq_calculus.specs.Declarations.{names_of}
 use Rattle.lq_env.specs.Environments.{Adds, env_of, with_arity}

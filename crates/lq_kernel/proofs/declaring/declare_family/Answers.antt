@@ -1,4 +1,4 @@
-use Rattle.std.proofs.Common.{◌≡◌, ◌∙◌, refl, sym, ap, subst}
+use Rattle.std.proofs.Common.{◌∙◌, refl, sym, ap, subst}
 use Rattle.lq_calculus.specs.Declarations.{permitted}
 use Rattle.lq_env.specs.Environments.{IsEnv, env_of}
 use Rattle.lq_env.specs.Families.{family_of}

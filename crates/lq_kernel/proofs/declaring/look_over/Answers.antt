@@ -1,4 +1,4 @@
-use Rattle.std.proofs.Common.{◌≡◌, ◌∙◌, [], map, sym, ap, subst, Err}
+use Rattle.std.proofs.Common.{◌∙◌, [], map, sym, ap, subst, Err}
 use Rattle.lq_calculus.specs.Checking.{known, known_context}
 use Rattle.lq_env.specs.Environments.{env_of}
 use Rattle.lq_env.specs.Families.{family_of}

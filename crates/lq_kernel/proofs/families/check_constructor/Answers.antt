@@ -1,7 +1,5 @@
-use Rattle.std.proofs.Common.{◌≡◌, ◌∙◌, ◌++◌, [], refl, sym, ap, subst, arith, Some, None}
-use Rattle.std.specs.Prelude.{IfErr}
+use Rattle.std.proofs.Common.{◌∙◌, ◌++◌, sym, ap, subst, arith}
 use Rattle.lq_trees.specs.Ticks.{failed, ComesTo}
-use Rattle.lq_terms.specs.Terms.{text_of}
 use Rattle.lq_calculus.specs.Typing.{first_big}
 use Rattle.lq_calculus.specs.Checking.{too_big, row_sorts}
 use Rattle.lq_kernel.specs.Answers.{Refuses}

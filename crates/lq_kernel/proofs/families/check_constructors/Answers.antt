@@ -1,4 +1,4 @@
-use Rattle.std.proofs.Common.{◌≡◌, ◌∙◌, ◌+◌, refl, sym, ap, subst, arith, get_or, ◌∷◌, [], ◌++◌, Ok}
+use Rattle.std.proofs.Common.{◌∙◌, refl, ap, arith, get_or, ◌∷◌, [], ◌++◌, Ok}
 use Rattle.lq_terms.specs.Terms.{text_of, tree_of}
 use Rattle.lq_terms.specs.Contexts.{context_of}
 use Rattle.lq_terms.proofs.Growth.{Grows-refl, Grows-trans}

@@ -1,4 +1,4 @@
-use Rattle.std.proofs.Common.{◌≡◌, ◌∙◌, sym, ap, subst, get_or, Ok, Err}
+use Rattle.std.proofs.Common.{subst, get_or, Ok, Err}
 use Rattle.lq_terms.specs.Terms.{tree_of}
 use Rattle.lq_terms.specs.Contexts.{context_of}
 use Rattle.lq_env.proofs.FaultLaws.{no_constructor}

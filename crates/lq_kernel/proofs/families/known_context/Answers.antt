@@ -1,11 +1,8 @@
-use Rattle.std.proofs.Common.{◌≡◌, ◌∙◌, ◌∷◌, [], ◌++◌, sym, ap, subst, get_or, Ok, Err}
+use Rattle.std.proofs.Common.{◌∙◌, ◌∷◌, [], ◌++◌, sym, ap, subst, get_or}
 use Rattle.std.proofs.lemmas.List.{take_more}
-use Rattle.lq_terms.specs.Terms.{tree_of}
-use Rattle.lq_terms.specs.Contexts.{context_of}
 use Rattle.lq_env.proofs.Loops.{no_hypothesis}
 use Rattle.lq_kernel.specs.Closed.{IsContext}
-use Rattle.lq_kernel.specs.Steps.{KnowsAll}
-use Rattle.lq_kernel.proofs.LookLaws.{names_in, scoped_at}
+use Rattle.lq_kernel.proofs.LookLaws.{scoped_at}
 use Rattle.lq_kernel.proofs.TelescopeLaws.{before_scoped, known_later, known_refused, known_end}
 use Rattle.lq_kernel.proofs.families.known_context.Goals as goal
 

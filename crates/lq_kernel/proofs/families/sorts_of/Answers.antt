@@ -1,4 +1,4 @@
-use Rattle.std.proofs.Common.{◌≡◌, ◌∙◌, ◌∷◌, [], ◌++◌, refl, sym, ap, subst, arith, take, get_or}
+use Rattle.std.proofs.Common.{◌∙◌, ◌∷◌, [], ◌++◌, refl, sym, ap, subst, arith, take, get_or}
 use Rattle.std.proofs.lemmas.List.{take_more}
 use Rattle.lq_terms.specs.Terms.{tree_of}
 use Rattle.lq_terms.specs.Contexts.{context_of}

@@ -2,7 +2,7 @@ use Rattle.std.proofs.Common.{◌≡◌, refl, sym, ap, false, ◌∙◌}
 use Rattle.lq_terms.specs.declared.nodes.NameId.{NameId}
 use Rattle.lq_terms.specs.declared.nodes.TermId.{TermId}
 use Rattle.lq_terms.specs.declared.nodes.Node.{Node}
-use Rattle.lq_terms.specs.Terms.{Terms, node_tree, tree_of}
+use Rattle.lq_terms.specs.Terms.{Terms, node_tree}
 use Rattle.lq_calculus.specs.Typing.{is_product}
 use Rattle.lq_kernel.proofs.rows.as_row.Goals as goal
 

@@ -1,4 +1,4 @@
-use Rattle.std.proofs.Common.{◌≡◌, ◌∙◌, ◌+◌, sym, ap, arith, Some}
+use Rattle.std.proofs.Common.{◌∙◌, ◌+◌, sym, ap, Some}
 use Rattle.lq_kernel.proofs.RowLaws.{big_here, big_later, big_nowhere}
 use Rattle.lq_kernel.proofs.rows.first_big.Goals as goal
 
