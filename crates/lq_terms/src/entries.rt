@@ -8,15 +8,15 @@ ghost use Rattle.lq_terms.specs.Sound.{class_at};
 ghost use Rattle.lq_terms.specs.declared.entries.Entry.{Entry};
 
 use crate::classes::{Class, Classes, Shape};
+use crate::facts::Facts;
 use crate::nodes::{NoMemory, Node, TermId};
-use lq_trees::Measure;
 use std::alloc::Global;
 
-/// A term's node, how large its tree is, its class, and how many shapes there were when it was made.
+/// A term's node, what is known of its tree, its class, and how many shapes there were when it was made.
 #[derive(Drop)]
 pub(crate) struct Entry {
     pub(crate) node: Node,
-    pub(crate) measure: Measure,
+    pub(crate) facts: Facts,
     pub(crate) class: Class,
     pub(crate) shapes: usize,
 }

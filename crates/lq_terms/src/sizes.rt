@@ -1,7 +1,8 @@
-//! How large a term is, and whether it is within the limits.
+//! How large a term is, whether it is within the limits, and what it holds.
 
 ghost use Rattle.std.specs.Prelude.{◌≡◌};
 ghost use Rattle.lq_trees.specs.Size.{measure, fit};
+ghost use Rattle.lq_trees.specs.Marks.{loose, holds_hypothesis, holds_unknown};
 ghost use Rattle.lq_terms.specs.Terms.{HasTerm, tree_of};
 
 use crate::bank::Bank;
@@ -22,4 +23,29 @@ pub fn fits(bank: &Bank<'_>, term: TermId) -> Fit
     ensures { result ≡ fit (tree_of bank.now term) }
 {
     bank.fits(term)
+}
+
+/// How many loose bound variables a term has, counted up to the outermost that it names, in one step. One that has
+/// none is closed.
+pub fn loose(bank: &Bank<'_>, term: TermId) -> u64
+    requires { HasTerm bank.now term }
+    ensures { result ≡ loose (tree_of bank.now term) }
+{
+    bank.loose(term)
+}
+
+/// Whether a hypothesis stands in a term, in one step.
+pub fn holds_hypothesis(bank: &Bank<'_>, term: TermId) -> bool
+    requires { HasTerm bank.now term }
+    ensures { result ≡ holds_hypothesis (tree_of bank.now term) }
+{
+    bank.holds_hypothesis(term)
+}
+
+/// Whether an unknown stands in a term, in one step.
+pub fn holds_unknown(bank: &Bank<'_>, term: TermId) -> bool
+    requires { HasTerm bank.now term }
+    ensures { result ≡ holds_unknown (tree_of bank.now term) }
+{
+    bank.holds_unknown(term)
 }

@@ -20,7 +20,7 @@ pub invariant_of-self-2 : goal.invariant_of-self-2
 invariant_of-self-2 c =
     let stands : slice_get c.class_of.new.shapes.keys c.in_ok-class.class ≡ Some (shape_by (class_at c.self.inside.entries.items) c.args.node) =
     c.in_ok-class.ensures.stands ∙ ap Some (c.in_ok-shape.ensures ∙ ap (λ (es : List Entry). shape_by (class_at es) c.args.node) c.deref.ensures.value) in (
-      IsSound-pushed _ _ _ c.args.self.now _ c.self.view_is c.in-Ok.ensures.items c.self.invariant.0 c.requires c.measure_node-measure.ensures,
+      IsSound-pushed _ _ _ c.args.self.now _ c.self.view_is c.in-Ok.ensures.items c.self.invariant.0 c.requires c.node_facts-facts.ensures,
       AreClassed-pushed _ c.self.inside.shapes.keys _ _ _ c.args.self.now _ c.self.view_is c.in-Ok.ensures.items c.self.invariant.0 c.requires stands c.len.ensures.len
           (AreClassed-wider c.self.inside.shapes.keys _ _ c.class_of.ensures.distinct c.class_of.ensures.kept c.self.invariant.1),
     )
