@@ -1,10 +1,7 @@
 -- The laws of shapes.
-use Rattle.std.proofs.Common.{◌≡◌, ◌∙◌, ◌⊎◌, inl, inr, ℕ, ◌<◌, ◌≤◌, Bool, true, false, true≢false, List, [], ◌∷◌, map, get_or, slice_get, Some, refl, sym, ap, arith}
+use Rattle.std.proofs.Common.{◌≡◌, ℕ, Bool, true, List, [], ◌∷◌, map, refl, sym, arith}
 use Rattle.std.specs.List.{AllByRecursion, IsDistinct}
-use Rattle.std.proofs.lemmas.Bool.{cases_lt}
 use Rattle.std.proofs.lemmas.Cmp.{nat_list_eq_equiv}
-use Rattle.std.proofs.lemmas.Option.{slice_get_within, get_or_from_slice_get}
-use Rattle.std.proofs.lemmas.Map.Keys.{apart_from_distinct}
 use Rattle.std.specs.Cmp.Lexicographic.{same_text}
 use Rattle.lq_trees.specs.Tree.{Tree}
 use Rattle.lq_trees.specs.Same.{nameless, each_nameless}
@@ -15,6 +12,7 @@ use Rattle.lq_terms.specs.declared.nodes.TermId.{TermId}
 use Rattle.lq_terms.specs.declared.nodes.Node.{Node}
 use Rattle.lq_terms.specs.declared.classes.Shape.{Shape}
 use Rattle.lq_terms.specs.Shapes.{AreDistinct, shape_by}
+use Rattle.lq_terms.proofs.Keys.{distinct_keys}
 use Rattle.lq_terms.specs.Terms.{trees_by, node_by, EachPart}
 
 -- what `==` answers of two shapes
@@ -41,25 +39,8 @@ pub own : (a : Shape) → shapes_eq a a ≡ true
 own a = grind (arith, classes_own)
 
 -- no key of a set of shapes stands twice
-pub distinct_keys : (shapes : List Shape) → IsDistinct shapes_eq shapes → AreDistinct shapes
-distinct_keys shapes h i j s p q = by_order (cases_lt i j)
-  where
-    at : (k : ℕ) → slice_get shapes k ≡ Some s → get_or shapes k s ≡ s
-    at k r = get_or_from_slice_get shapes k s s r
-
-    not_before : (a b : ℕ) → slice_get shapes a ≡ Some s → slice_get shapes b ≡ Some s → a < b → ⊥
-    not_before a b r t l =
-        let apart : shapes_eq (get_or shapes a s) (get_or shapes b s) ≡ false = apart_from_distinct shapes_eq shapes a b s h l (slice_get_within shapes b s t) in
-        let same : shapes_eq (get_or shapes a s) (get_or shapes b s) ≡ true = ap (λ (x : Shape). shapes_eq x (get_or shapes b s)) (at a r) ∙ ap (shapes_eq s) (at b t) ∙ own s in
-        absurd (true≢false (sym same ∙ apart))
-
-    by_order : (i < j) ⊎ (j ≤ i) → i ≡ j
-    by_order (inl l) = absurd (not_before i j p q l)
-    by_order (inr g) = by_back (cases_lt j i)
-      where
-        by_back : (j < i) ⊎ (i ≤ j) → i ≡ j
-        by_back (inl l) = absurd (not_before j i q p l)
-        by_back (inr k) = omega arith
+pub distinct_shapes : (shapes : List Shape) → IsDistinct shapes_eq shapes → AreDistinct shapes
+distinct_shapes = distinct_keys shapes_eq own
 
 module _ (text : NameId → List ℕ) (tree : TermId → Tree) (class : TermId → ℕ) (N : NameId → Type 0) (T : TermId → Type 0) where
   module _ (alike : (t u : TermId) → T t → T u → class t ≡ class u → nameless (tree t) ≡ nameless (tree u)) where

@@ -4,9 +4,9 @@ use Rattle.lq_terms.specs.declared.nodes.Node.{Node}
 use Rattle.lq_terms.specs.declared.nodes.TermId.{TermId}
 use Rattle.lq_terms.specs.declared.classes.Shape.{Shape}
 
--- no shape stands at two places
-abbrev pub AreDistinct : List Shape → Type 0
-AreDistinct shapes = (i j : ℕ) (s : Shape) → slice_get shapes i ≡ Some s → slice_get shapes j ≡ Some s → i ≡ j
+-- nothing stands at two places
+abbrev pub AreDistinct : {X : Type 0} → List X → Type 0
+AreDistinct xs = (i j : ℕ) (x : _) → slice_get xs i ≡ Some x → slice_get xs j ≡ Some x → i ≡ j
 
 -- a node without its binder's name, by the classes of its parts
 abbrev pub shape_by : (TermId → ℕ) → Node → Shape

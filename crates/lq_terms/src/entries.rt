@@ -4,27 +4,29 @@ ghost use Rattle.std.specs.Prelude.{◌≡◌, ℕ, ◌+◌, ◌<◌, length, ma
 ghost use Rattle.std.specs.List.{AllByRecursion};
 ghost use Rattle.lq_terms.specs.Terms.{EachPart};
 ghost use Rattle.lq_terms.specs.Shapes.{shape_by};
-ghost use Rattle.lq_terms.specs.Sound.{class_at};
-ghost use Rattle.lq_terms.specs.declared.entries.Entry.{Entry};
+ghost use Rattle.lq_terms.specs.Sound.{Entry, class_at};
 
 use crate::classes::{Class, Classes, Shape};
 use crate::facts::Facts;
 use crate::nodes::{NoMemory, Node, TermId};
+use indexmap::IndexMap;
 use std::alloc::Global;
 
-/// A term's node, what is known of its tree, its class, and how many shapes there were when it was made.
+/// What is known of a term's tree, its class, and how many shapes there were when it was made.
 #[derive(Drop)]
-pub(crate) struct Entry {
-    pub(crate) node: Node,
+pub(crate) struct Kept {
     pub(crate) facts: Facts,
     pub(crate) class: Class,
     pub(crate) shapes: usize,
 }
 
+/// The nodes of terms, each at the term's place, with what is kept of it.
+pub(crate) type Entries = IndexMap<Node, Kept>;
+
 /// The shape of a node whose parts have entries.
-pub(crate) fn shape_of(alloc: Global, entries: &[Entry], node: &Node) -> Result<Shape, NoMemory>
-    requires { EachPart (λ _. Unit {0}) (λ t. t.place < length entries.now) node.now }
-    ensures { IfOk result (λ s. s ≡ shape_by (class_at entries.now) node.now) }
+pub(crate) fn shape_of(alloc: Global, entries: &Entries, node: &Node) -> Result<Shape, NoMemory>
+    requires { EachPart (λ _. Unit {0}) (λ t. t.place < length entries.now.entries) node.now }
+    ensures { IfOk result (λ s. s ≡ shape_by (class_at entries.now.entries) node.now) }
 {
     match node {
         Node::Rel(index) => Ok(Shape::Rel(*index)),
@@ -59,17 +61,17 @@ pub(crate) fn shape_of(alloc: Global, entries: &[Entry], node: &Node) -> Result<
 }
 
 /// The class of a term.
-fn class_at(entries: &[Entry], term: TermId) -> Class
-    requires { term.place < length entries.now }
-    ensures { result ≡ class_at entries.now term }
+fn class_at(entries: &Entries, term: TermId) -> Class
+    requires { term.place < length entries.now.entries }
+    ensures { result ≡ class_at entries.now.entries term }
 {
     entries[term.place].class
 }
 
 /// The classes of terms.
-fn classes_at(alloc: Global, entries: &[Entry], terms: &[TermId]) -> Result<Classes, NoMemory>
-    requires { AllByRecursion (λ t. t.place < length entries.now) terms.now }
-    ensures { IfOk result (λ c. c ≡ map (class_at entries.now) terms.now) }
+fn classes_at(alloc: Global, entries: &Entries, terms: &[TermId]) -> Result<Classes, NoMemory>
+    requires { AllByRecursion (λ t. t.place < length entries.now.entries) terms.now }
+    ensures { IfOk result (λ c. c ≡ map (class_at entries.now.entries) terms.now) }
 {
     let mut classes = Classes::new(alloc);
     for term in terms {
@@ -79,11 +81,11 @@ fn classes_at(alloc: Global, entries: &[Entry], terms: &[TermId]) -> Result<Clas
 }
 
 /// How many shapes there were when the last entry was made.
-pub(crate) fn shapes_before(entries: &[Entry]) -> usize
-    ensures { (k : ℕ) (e : Entry) → slice_get entries.now k ≡ Some e → k + 1 ≡ length entries.now → result ≡ e.shapes }
+pub(crate) fn shapes_before(entries: &Entries) -> usize
+    ensures { (k : ℕ) (e : Entry) → slice_get entries.now.entries k ≡ Some e → k + 1 ≡ length entries.now.entries → result ≡ e.1.shapes }
 {
     match entries.last() {
-        Some(entry) => entry.shapes,
+        Some((_, kept)) => kept.shapes,
         None => 0,
     }
 }

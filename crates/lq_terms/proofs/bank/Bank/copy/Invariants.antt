@@ -1,5 +1,5 @@
 use Rattle.std.proofs.Common.{◌≡◌, take}
 use Rattle.lq_terms.proofs.bank.Bank.copy.Given as goal
 
-abbrev pub invariant-loop-entry : goal.invariant-loop-entry
-invariant-loop-entry l = record { names : l.copy.names ≡ l.self.names; nodes : l.copy.nodes ≡ take l.entry-index l.self.nodes }
+abbrev pub invariant-loop-place : goal.invariant-loop-place
+invariant-loop-place l = record { names : l.copy.names ≡ l.self.names; nodes : l.copy.nodes ≡ take l.place l.self.nodes }
