@@ -1,10 +1,9 @@
 -- The look for a name that is not taken, and the names of a context.
-use Rattle.std.proofs.Common.{◌≡◌, ◌∙◌, ℕ, suc, ◌+◌, ◌-◌, ◌<◌, List, [], ◌∷◌, ◌++◌, map, ◌≤◌, length, get_or, drop, refl, sym, ap, subst, Bool, true, false, ◌||◌, arith}
+use Rattle.std.proofs.Common.{◌≡◌, ◌∙◌, ℕ, suc, ◌+◌, ◌<◌, List, [], ◌∷◌, ◌++◌, map, ◌≤◌, length, get_or, drop, refl, sym, ap, subst, true, false, ◌||◌, arith}
 use Rattle.std.specs.Prelude.{decimal, codes, Result, Ok, Err, IfOk}
 use Rattle.lq_terms.specs.declared.nodes.NoMemory.{NoMemory}
 use Rattle.std.specs.List.{AllByRecursion}
 use Rattle.std.proofs.lemmas.List.{drop_more, drop_all, length-map}
-use Rattle.lq_terms.proofs.Growth.{Grows-trans}
 use Rattle.lq_trees.specs.Tree.{Name, Context, same_name}
 use Rattle.lq_trees.specs.Fresh.{is_listed, fresh_from, fresh_of, fresh}
 use Rattle.lq_terms.specs.declared.nodes.Hypothesis.{Hypothesis}
@@ -113,71 +112,18 @@ pub base_x : (r : Result NameId NoMemory) (new : Terms) (t : Name) → length t 
 base_x (Ok y) new t e named = λ g. unnamed_base t e g ∙ ap (λ z. fresh_of (map (λ h. h.name) g) z) (sym named.is)
 base_x (Err fault) new t e named = tt
 
--- the search for a free number, as far as it has come
-module _ (old mid new : Terms) (taken : List NameId) (base : NameId) (k : ℕ) (names : AllByRecursion (HasName old) taken) (based : HasName old base) (g : Grows old mid) (h : Grows mid new) where
-  -- what the numbered name is, and whether it is taken, at the old bank
-  pub numbered_is : (x : NameId) → IsName new x (text_of mid base ++ decimal k) → text_of new x ≡ text_of old base ++ decimal k
-  numbered_is x named = named.is ∙ ap (λ z. z ++ decimal k) (g.text base based)
-
-  pub numbered_taken : (x : NameId) (b : Bool) → IsName new x (text_of mid base ++ decimal k) → is_listed (map (text_of new) taken) (text_of new x) ≡ b
-      → is_listed (map (text_of old) taken) (text_of old base ++ decimal k) ≡ b
-  numbered_taken x b named e =
-      ap (λ us. is_listed us (text_of old base ++ decimal k)) (sym (names-grown old new taken (Grows-trans old mid new g h) names))
-      ∙ ap (λ z. is_listed (map (text_of new) taken) z) (sym (numbered_is x named)) ∙ e
-
-  pub number_free :
-      (x : NameId) → k < length taken → is_listed (map (text_of old) taken) (text_of old base) ≡ true
-      → fresh_from (map (text_of old) taken) (text_of old base) 0 (length taken) ≡ fresh_from (map (text_of old) taken) (text_of old base) k (length taken - k)
-      → IsName new x (text_of mid base ++ decimal k) → is_listed (map (text_of new) taken) (text_of new x) ≡ false
-      → IsName new x (fresh_of (map (text_of old) taken) (text_of old base))
-  number_free x l first so_far named e =
-      let left : length taken - k ≡ suc (length taken - suc k) = omega arith in
-      record {
-        has = named.has;
-        is =
-            numbered_is x named
-            ∙ sym
-            (fresh_taken (map (text_of old) taken) (text_of old base) first
-            ∙ ap (λ n. fresh_from (map (text_of old) taken) (text_of old base) 0 n) (length-map taken (text_of old))
-            ∙ so_far
-            ∙ ap (λ n. fresh_from (map (text_of old) taken) (text_of old base) k n) left
-            ∙ fresh_here (map (text_of old) taken) (text_of old base) k (length taken - suc k) (numbered_taken x false named e));
-      }
-
-  pub number_taken :
-      (x : NameId) → k < length taken
-      → fresh_from (map (text_of old) taken) (text_of old base) 0 (length taken) ≡ fresh_from (map (text_of old) taken) (text_of old base) k (length taken - k)
-      → IsName new x (text_of mid base ++ decimal k) → is_listed (map (text_of new) taken) (text_of new x) ≡ true
-      → fresh_from (map (text_of old) taken) (text_of old base) 0 (length taken) ≡ fresh_from (map (text_of old) taken) (text_of old base) (k + 1) (length taken - (k + 1))
-  number_taken x l so_far named e =
-      let left : length taken - k ≡ suc (length taken - (k + 1)) = omega arith in
-      let more : suc k ≡ k + 1 = omega arith in
-      so_far
-      ∙ ap (λ n. fresh_from (map (text_of old) taken) (text_of old base) k n) left
-      ∙ fresh_later (map (text_of old) taken) (text_of old base) k (length taken - (k + 1)) (numbered_taken x true named e)
-      ∙ ap (λ n. fresh_from (map (text_of old) taken) (text_of old base) n (length taken - (k + 1))) more
-
-  -- every number below is taken
-  pub number_last :
-      (r : Result NameId NoMemory) (n : ℕ) → n ≡ length taken → length taken ≤ k → k ≤ length taken → is_listed (map (text_of old) taken) (text_of old base) ≡ true
-      → fresh_from (map (text_of old) taken) (text_of old base) 0 (length taken) ≡ fresh_from (map (text_of old) taken) (text_of old base) k (length taken - k)
-      → IfOk r (λ x. IsName new x (text_of mid base ++ decimal n)) → IfOk r (λ x. IsName new x (fresh_of (map (text_of old) taken) (text_of old base)))
-  number_last (Err fault) n en l m first so_far named = tt
-  number_last (Ok x) n en l m first so_far named =
-      let ek : n ≡ k = omega arith in
-      let none : length taken - k ≡ 0 = omega arith in
-      let here : IsName new x (text_of mid base ++ decimal k) = subst (λ z. IsName new x (text_of mid base ++ decimal z)) ek named in
-      record {
-        has = here.has;
-        is =
-            numbered_is x here
-            ∙ sym
-            (fresh_taken (map (text_of old) taken) (text_of old base) first
-            ∙ ap (λ n. fresh_from (map (text_of old) taken) (text_of old base) 0 n) (length-map taken (text_of old))
-            ∙ so_far
-            ∙ ap (λ n. fresh_from (map (text_of old) taken) (text_of old base) k n) none
-            ∙ fresh_last (map (text_of old) taken) (text_of old base) k);
-      }
+-- the base is taken, and the number is the first that is free
+pub number_free :
+    (old new : Terms) (taken : List NameId) (base : NameId) (k : ℕ) (r : Result NameId NoMemory) → is_listed (map (text_of old) taken) (text_of old base) ≡ true
+    → fresh_from (map (text_of old) taken) (text_of old base) 0 (length taken) ≡ text_of old base ++ decimal k → IfOk r (λ x. IsName new x (text_of old base ++ decimal k))
+    → IfOk r (λ x. IsName new x (fresh_of (map (text_of old) taken) (text_of old base)))
+number_free old new taken base k r listed first named =
+    subst (λ (z : Name). IfOk r (λ x. IsName new x z))
+    (sym
+    (fresh_taken (map (text_of old) taken) (text_of old base) listed
+    ∙ ap (λ n. fresh_from (map (text_of old) taken) (text_of old base) 0 n) (length-map taken (text_of old))
+    ∙ first))
+    named
 
 -- the same of a result
 pub name_ends_in :

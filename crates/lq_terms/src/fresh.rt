@@ -1,14 +1,15 @@
 //! Names that are not taken.
 
-ghost use Rattle.std.specs.Prelude.{◌≡◌, ◌++◌, map, decimal, IfOk};
+ghost use Rattle.std.specs.Prelude.{◌≡◌, ◌++◌, length, map, decimal, IfOk};
 ghost use Rattle.std.specs.List.{AllByRecursion};
-ghost use Rattle.lq_trees.specs.Fresh.{is_listed, fresh_of, fresh};
+ghost use Rattle.lq_trees.specs.Fresh.{is_listed, fresh_from, fresh_of, fresh};
 ghost use Rattle.lq_terms.specs.Terms.{HasName, IsName, text_of, Grows};
 ghost use Rattle.lq_terms.specs.Contexts.{context_of, HasContext};
 ghost use Rattle.lq_trees.specs.Tree.{Context};
 
 use crate::bank::Bank;
 use crate::nodes::{Hypothesis, NameId, NoMemory};
+use crate::numbers::{first_free, used_numbers};
 use std::alloc::Global;
 
 /// Whether a name is one of those.
@@ -38,6 +39,16 @@ fn numbered(bank: &mut Bank<'_>, base: NameId, number: usize) -> Result<NameId, 
     bank.name(text.as_str())
 }
 
+/// The first number from 0 on that no taken name has behind the base.
+fn free_number(bank: &Bank<'_>, taken: &[NameId], base: NameId) -> Result<usize, NoMemory>
+    requires taken { AllByRecursion (HasName bank.now) taken.now }
+    requires base { HasName bank.now base }
+    ensures { IfOk result (λ k. fresh_from (map (text_of bank.now) taken.now) (text_of bank.now base) 0 (length taken.now) ≡ text_of bank.now base ++ decimal k) }
+{
+    let used = used_numbers(bank, taken, base)?;
+    Ok(first_free(&used))
+}
+
 /// The first of the base, the base with 0 behind it, with 1 and so on that is not taken.
 pub fn fresh_name(bank: &mut Bank<'_>, taken: &[NameId], base: NameId) -> Result<NameId, NoMemory>
     requires taken { AllByRecursion (HasName bank.old) taken.now }
@@ -49,13 +60,8 @@ pub fn fresh_name(bank: &mut Bank<'_>, taken: &[NameId], base: NameId) -> Result
     if !is_taken(bank, taken, base) {
         return Ok(base);
     }
-    for number in 0..taken.len() {
-        let name = numbered(bank, base, number)?;
-        if !is_taken(bank, taken, name) {
-            return Ok(name);
-        }
-    }
-    numbered(bank, base, taken.len())
+    let number = free_number(bank, taken, base)?;
+    numbered(bank, base, number)
 }
 
 /// The name of a binder's variable under the binder: the first of the binder's name (`x` if it has

@@ -1,0 +1,9 @@
+-- Which numbers are used behind a text.
+use Rattle.std.specs.Prelude.{◌≡◌, ◌<◌, ◌++◌, ℕ, Bool, false, List, length, decimal, slice_index_or}
+use Rattle.lq_trees.specs.Tree.{Name}
+use Rattle.lq_trees.specs.Fresh.{is_listed}
+
+-- of each of the first `n` numbers, whether one of these names is the text with the number behind it
+pub record AreUsed (names : List Name) (text : Name) (n : ℕ) (used : List Bool) : Type 0 where
+  pub length : length used ≡ n
+  pub told : (k : ℕ) → k < n → slice_index_or used k false ≡ is_listed names (text ++ decimal k)
