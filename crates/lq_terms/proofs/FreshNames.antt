@@ -3,13 +3,14 @@ use Rattle.std.proofs.Common.{◌≡◌, ◌∙◌, ℕ, suc, ◌+◌, ◌<◌, 
 use Rattle.std.specs.Prelude.{decimal, codes, Result, Ok, Err, IfOk}
 use Rattle.lq_terms.specs.declared.nodes.NoMemory.{NoMemory}
 use Rattle.std.specs.List.{AllByRecursion}
-use Rattle.std.proofs.lemmas.List.{drop_more, drop_all, length-map}
+use Rattle.std.proofs.lemmas.List.{drop_more, drop_all}
 use Rattle.lq_trees.specs.Tree.{Name, Context, same_name}
 use Rattle.lq_trees.specs.Fresh.{is_listed, fresh_from, fresh_of, fresh}
 use Rattle.lq_terms.specs.declared.nodes.Hypothesis.{Hypothesis}
 use Rattle.lq_terms.specs.declared.nodes.NameId.{NameId}
 use Rattle.lq_terms.specs.Terms.{Terms, HasName, IsName, Grows, text_of}
 use Rattle.lq_terms.specs.Contexts.{context_of, HasContext}
+use Rattle.lq_terms.specs.Numbers.{IsFirstFree}
 
 -- the names from an index on: the one there, or one of those behind it
 pub listed_next :
@@ -115,14 +116,12 @@ base_x (Err fault) new t e named = tt
 -- the base is taken, and the number is the first that is free
 pub number_free :
     (old new : Terms) (taken : List NameId) (base : NameId) (k : ℕ) (r : Result NameId NoMemory) → is_listed (map (text_of old) taken) (text_of old base) ≡ true
-    → fresh_from (map (text_of old) taken) (text_of old base) 0 (length taken) ≡ text_of old base ++ decimal k → IfOk r (λ x. IsName new x (text_of old base ++ decimal k))
+    → IsFirstFree (map (text_of old) taken) (text_of old base) k → IfOk r (λ x. IsName new x (text_of old base ++ decimal k))
     → IfOk r (λ x. IsName new x (fresh_of (map (text_of old) taken) (text_of old base)))
 number_free old new taken base k r listed first named =
     subst (λ (z : Name). IfOk r (λ x. IsName new x z))
     (sym
-    (fresh_taken (map (text_of old) taken) (text_of old base) listed
-    ∙ ap (λ n. fresh_from (map (text_of old) taken) (text_of old base) 0 n) (length-map taken (text_of old))
-    ∙ first))
+    (fresh_taken (map (text_of old) taken) (text_of old base) listed ∙ first))
     named
 
 -- the same of a result

@@ -11,7 +11,7 @@ use Rattle.std.proofs.lemmas.Str.Parse.{IsNumeralModel, numerals_by_value, tells
 use Rattle.lq_trees.specs.Tree.{Name, same_name}
 use Rattle.lq_trees.specs.Fresh.{is_listed, fresh_from}
 use Rattle.lq_terms.specs.declared.nodes.NameId.{NameId}
-use Rattle.lq_terms.specs.Numbers.{AreUsed}
+use Rattle.lq_terms.specs.Numbers.{IsFirstFree, AreUsed}
 use Rattle.lq_terms.proofs.FreshNames.{none_listed, fresh_here, fresh_later, fresh_last}
 
 numerals : IsNumeralModel (AllDigits 10) (digits_value 10)
@@ -103,8 +103,9 @@ module _ (taken : List Name) (x : Name) (m : ℕ) where
 
   -- by the table of as many numbers as there are names
   pub table_first :
-      (n : ℕ) (used : List Bool) → AreUsed taken x n used → ((k : ℕ) → k < m → get_or used k false ≡ true) → m ≤ length used → (m < length used → get_or used m false ≡ false)
-      → fresh_from taken x 0 n ≡ x ++ decimal m
-  table_first n used h before within free =
-      fresh_first 0 n (omega arith) (omega (arith, h.length)) (λ j l. sym (h.told j (omega (arith, h.length))) ∙ before j l)
+      (n : ℕ) (used : List Bool) → length taken ≡ n → AreUsed taken x n used → ((k : ℕ) → k < m → get_or used k false ≡ true) → m ≤ length used → (m < length used → get_or used m false ≡ false)
+      → IsFirstFree taken x m
+  table_first n used count h before within free =
+      ap (fresh_from taken x 0) count
+      ∙ fresh_first 0 n (omega arith) (omega (arith, h.length)) (λ j l. sym (h.told j (omega (arith, h.length))) ∙ before j l)
       (λ l. let inside : m < n = omega arith in sym (h.told m inside) ∙ free (omega (arith, h.length)))

@@ -1,8 +1,9 @@
 //! Names that are not taken.
 
-ghost use Rattle.std.specs.Prelude.{◌≡◌, ◌++◌, length, map, decimal, IfOk};
+ghost use Rattle.std.specs.Prelude.{◌≡◌, ◌++◌, map, decimal, IfOk};
 ghost use Rattle.std.specs.List.{AllByRecursion};
-ghost use Rattle.lq_trees.specs.Fresh.{is_listed, fresh_from, fresh_of, fresh};
+ghost use Rattle.lq_trees.specs.Fresh.{is_listed, fresh_of, fresh};
+ghost use Rattle.lq_terms.specs.Numbers.{IsFirstFree};
 ghost use Rattle.lq_terms.specs.Terms.{HasName, IsName, text_of, Grows};
 ghost use Rattle.lq_terms.specs.Contexts.{context_of, HasContext};
 ghost use Rattle.lq_trees.specs.Tree.{Context};
@@ -43,7 +44,7 @@ fn numbered(bank: &mut Bank<'_>, base: NameId, number: usize) -> Result<NameId, 
 fn free_number(bank: &Bank<'_>, taken: &[NameId], base: NameId) -> Result<usize, NoMemory>
     requires taken { AllByRecursion (HasName bank.now) taken.now }
     requires base { HasName bank.now base }
-    ensures { IfOk result (λ k. fresh_from (map (text_of bank.now) taken.now) (text_of bank.now base) 0 (length taken.now) ≡ text_of bank.now base ++ decimal k) }
+    ensures { IfOk result (IsFirstFree (map (text_of bank.now) taken.now) (text_of bank.now base)) }
 {
     let used = used_numbers(bank, taken, base)?;
     Ok(first_free(&used))

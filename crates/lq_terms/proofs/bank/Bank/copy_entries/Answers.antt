@@ -1,7 +1,7 @@
 use Rattle.std.proofs.Common.{◌∙◌}
 use Rattle.lq_terms.proofs.Banks.{copied_parts, copied_more}
 use Rattle.lq_terms.proofs.NodeLaws.{copied_absent}
-use Rattle.lq_terms.proofs.bank.Bank.copy.Goals as goal
+use Rattle.lq_terms.proofs.bank.Bank.copy_entries.Goals as goal
 
 pub add-requires-clause-parts : goal.add-requires-clause-parts
 add-requires-clause-parts c =
