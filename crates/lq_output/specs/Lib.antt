@@ -1,4 +1,5 @@
 pub mod Script
+pub mod Numbers
 pub mod Tokens
 pub mod Grammar
 pub mod Nesting
