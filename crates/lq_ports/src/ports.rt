@@ -5,12 +5,16 @@ ghost use Rattle.std.specs.Io.KnownBytes.{IsAtEnd};
 ghost use Rattle.lq_ports.specs.Ports.{Reads, Rose, Writes};
 ghost use Rattle.lq_ports.specs.declared.ports.PortFault.TheVariants.{Failed};
 
+use thiserror::Error;
+
 /// Why a call moved no byte.
-#[derive(Clone, Copy, Debug, PartialEq, Eq)]
+#[derive(Clone, Copy, Debug, PartialEq, Eq, Error)]
 pub enum PortFault {
     /// The port failed, and its count of faults rose.
+    #[error("the port failed")]
     Failed,
     /// There was no memory.
+    #[error("there was no memory")]
     NoMemory,
 }
 
