@@ -1,4 +1,4 @@
-//! Terms, faults and accepted theorems as text. What is written goes to the end of a buffer; after an
+//! Terms and faults as text. What is written goes to the end of a buffer; after an
 //! `Err` the buffer may have part of it.
 
 ghost use Rattle.std.specs.Prelude.{◌≡◌, ◌+◌, ◌^◌, ◌<◌, ◌∷◌, ◌++◌, map, slice_get, Some, option_map, OnOk, IfOk, decimal};
@@ -6,7 +6,7 @@ ghost use Rattle.std.specs.List.{AllByRecursion};
 ghost use Rattle.lq_trees.specs.Size.{depth};
 ghost use Rattle.lq_terms.specs.Terms.{HasName, HasTerm, IsName, text_of, tree_of, Grows};
 ghost use Rattle.lq_output.specs.Printing.{uses, names_in, own_name, printed_name, sort_text, binder_text, left_side, arrow_text, forall_text, text_under, term_text};
-ghost use Rattle.lq_output.specs.Sentences.{defined, fault_text};
+ghost use Rattle.lq_output.specs.Sentences.{fault_text};
 ghost use Rattle.lq_output.specs.Output.{refused};
 ghost use Rattle.lq_script.specs.Binders.{binders_of, is_product};
 ghost use Rattle.lq_script.specs.Faults.{fault_of, HasFault};
@@ -330,21 +330,6 @@ fn append_term(out: &mut Vec<u8>, bank: &mut Bank<'_>, term: TermId) -> Result<(
     append_under(out, bank, &mut binders, term)
 }
 
-/// The text of a term: names, sorts and products, each binder that is used with a name of its own.
-pub(crate) fn term_text(
-    alloc: Global,
-    bank: &mut Bank<'_>,
-    term: TermId,
-) -> Result<Vec<u8>, NoMemory>
-    requires { HasTerm bank.old term }
-    ensures text { IfOk result (λ t. t.items ≡ term_text (tree_of bank.old term)) }
-    ensures grows { Grows bank.old bank.new }
-{
-    let mut out = Vec::new(alloc);
-    append_term(&mut out, bank, term)?;
-    Ok(out)
-}
-
 /// Writes a fault.
 #[tactic(auto, unfolding(lq_output::specs::Sentences::fault_text))]
 fn append_fault(
@@ -389,29 +374,4 @@ pub(crate) fn append_fault_line(
     append(out, ": ")?;
     append_fault(out, bank, fault)?;
     append(out, "\n")
-}
-
-/// That line alone.
-pub(crate) fn fault_line(
-    alloc: Global,
-    bank: &mut Bank<'_>,
-    number: u64,
-    fault: SentenceFault,
-) -> Result<Vec<u8>, NoMemory>
-    requires { HasFault bank.old fault }
-    ensures line { IfOk result (λ t. option_map (λ f. (refused number f).text) (fault_of bank.old fault) ≡ Some t.items) }
-    ensures grows { Grows bank.old bank.new }
-{
-    let mut out = Vec::new(alloc);
-    append_fault_line(&mut out, bank, number, fault)?;
-    Ok(out)
-}
-
-/// Writes the line for a theorem that is accepted.
-#[tactic(auto, unfolding(lq_output::specs::Sentences::defined))]
-pub(crate) fn append_defined(out: &mut Vec<u8>, name: &str) -> Result<(), NoMemory>
-    ensures { OnOk result (out.new.items ≡ out.old.items ++ defined name.now) }
-{
-    append(out, name)?;
-    append(out, " is defined\n")
 }
