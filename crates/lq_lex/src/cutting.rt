@@ -223,8 +223,8 @@ fn cut_open(alloc: Global, text: &[u8], start: usize) -> Result<Piece, LexFault>
 ///   Where the text ends before that, the tokens are those up to the end of the text.
 /// - `End` where only blanks and comments are left.
 ///
-/// Without `ended` the text may go on. The answer is then the next sentence where it has its end and a character behind
-/// that: it is the same however the text goes on. In all other cases the answer is `More`.
+/// Without `ended` the text may go on. `More` then comes only where the next sentence hasn't its end with a character behind
+/// that within its 65,536 bytes, and every other answer but `NoMemory` is the same however the text goes on.
 ///
 /// The tokens of a sentence stand one behind another at or after the place, none is empty, and they end within the text.
 ///
