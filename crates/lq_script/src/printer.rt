@@ -15,7 +15,6 @@ ghost use Rattle.lq_script.specs.Printed.{HasProduct, product_of, used_text, unu
 use crate::fault::SentenceFault;
 use lq_terms::{Bank, NameId, NoMemory, Node, TermId, fresh_name, measure};
 use lq_trees::Sort;
-use std::alloc::Global;
 
 /// A product: its binder, the domain and the rest.
 #[derive(Clone, Copy)]
