@@ -1,6 +1,6 @@
 -- What the kernel needs of a bank stays as the bank grows.
 use Rattle.std.proofs.Common.{◌≡◌, ◌∙◌, ℕ, refl, sym, ap, ap₂, subst, arith, List, [], ◌∷◌, ◌++◌, Option, Some, None}
-use Rattle.std.specs.Prelude.{option_map}
+use Rattle.std.specs.Prelude.{option_map, MatchOption}
 use Rattle.lq_trees.specs.Tree.{Name, Tree, Context, Hypothesis as TreeHypothesis}
 use Rattle.lq_trees.specs.Index.{Within}
 use Rattle.lq_trees.specs.Change.{close}
@@ -18,8 +18,7 @@ use Rattle.lq_env.specs.declared.environment.Declared.{Declared}
 use Rattle.lq_env.specs.Environments.{IsEnv, env_of}
 use Rattle.lq_env.proofs.Grown.{IsEnv-grown as env_IsEnv-grown, env_of-grown as env_env_of-grown}
 use Rattle.lq_kernel.specs.Closed.{IsScoped, IsBody, IsHypothesis, IsContext}
-use Rattle.lq_kernel.specs.declared.inside.Inside.{Inside}
-use Rattle.lq_kernel.specs.Steps.{IsType, IsInside}
+use Rattle.lq_kernel.specs.Steps.{IsType, IsVariable}
 use Rattle.lq_kernel.proofs.Trees.{within-opened}
 
 -- the bank has what the context names
@@ -81,48 +80,102 @@ closed_scoped old new body rest x h made = record { has = made.has; within = sub
 pub named_at : (old new : Terms) (hs ks : List Hypothesis) (binder y : NameId) → ks ≡ hs → IsName new y (fresh (context_of old ks) (text_of old binder)) → IsName new y (fresh (context_of old hs) (text_of old binder))
 named_at old new hs ks binder y e h = subst (λ z. IsName new y (fresh (context_of old z) (text_of old binder))) e h
 
--- what stands under a binder
-module _ (old named opened_at : Terms) (g : Grows old named) (h : Grows named opened_at) (hs : List Hypothesis) (binder y : NameId) (body : Option TermId) (kind rest u : TermId) (context : List Hypothesis)
-    (p : IsContext old hs) (hk : IsScoped old 0 kind) (hb : IsBody old body) (hr : IsScoped old 1 rest)
-    (named_as : IsName named y (fresh (context_of old hs) (text_of old binder))) (term : IsTerm opened_at u (opened (text_of named y) (tree_of named rest)))
-    (made : context ≡ hs ++ record { name = y; body = body; kind = kind } ∷ []) where
-  body_at : (o : Option TermId) → IsBody old o → option_map (tree_of opened_at) o ≡ option_map (tree_of old) o
-  body_at None q = refl
-  body_at (Some t) q = ap (λ z. Some z) (h.tree t (omega (arith, q.has, g.nodes)) ∙ g.tree t q.has)
+-- a hypothesis by its parts
+made_of : {a b : Name} {o q : Option Tree} {s t : Tree} → a ≡ b → o ≡ q → s ≡ t → ◌≡◌ {A = TreeHypothesis} (record { name = a; body = o; kind = s }) (record { name = b; body = q; kind = t })
+made_of e f k = rw (e, f, k) refl
 
-  pub inside_is : (G : Context) (x : Name) (A B : Tree) → context_of old hs ≡ G → text_of old binder ≡ x → tree_of old kind ≡ A → tree_of old rest ≡ B
-      → IsInside opened_at (record { name = y; term = u; context = context }) (fresh G x) (opened (fresh G x) B) (G ++ record { name = fresh G x; body = option_map (tree_of old) body; kind = A } ∷ [])
-  inside_is G x A B eg ex ea eb =
-      let whole : Grows old opened_at = Grows-trans old named opened_at g h in
-      let fresh_is : text_of named y ≡ fresh G x = named_as.is ∙ ap₂ fresh eg ex in
-      let rest_is : tree_of named rest ≡ B = g.tree rest hr.has ∙ eb in
-      let new : IsHypothesis opened_at (record { name = y; body = body; kind = kind }) = record { name = omega (arith, named_as.has, h.names); body = IsBody-grown old opened_at whole body hb; kind = IsScoped-grown old opened_at whole 0 kind hk } in
-      let last : hypothesis_of opened_at (record { name = y; body = body; kind = kind }) ≡ record { name = fresh G x; body = option_map (tree_of old) body; kind = A } =
-      made_of (h.text y named_as.has ∙ fresh_is) (body_at body hb) (whole.tree kind hk.has ∙ ea) in
-      record {
-        name = record { has = omega (arith, named_as.has, h.names); is = h.text y named_as.has ∙ fresh_is };
-        term = record { has = term.has; is = term.is ∙ ap₂ opened fresh_is rest_is };
-        within = within-opened (fresh G x) B (subst (Within 1) eb hr.within);
-        context = subst (IsContext opened_at) (sym made) (IsContext-push opened_at hs (record { name = y; body = body; kind = kind }) (IsContext-grown old opened_at whole hs p) new);
-        is = ap (context_of opened_at) made ∙ context_of-push opened_at hs (record { name = y; body = body; kind = kind }) ∙ ap₂ (λ H z. H ++ z ∷ []) (context_at old opened_at whole hs G p eg) last;
-      }
-    where
-      made_of : {a b : Name} {o q : Option Tree} {s t : Tree} → a ≡ b → o ≡ q → s ≡ t → ◌≡◌ {A = TreeHypothesis} (record { name = a; body = o; kind = s }) (record { name = b; body = q; kind = t })
-      made_of e f k = rw (e, f, k) refl
+module _ (old new : Terms) (g : Grows old new) where
+  -- what a body stands for stays
+  pub body_at : (o : Option TermId) (q : Option Tree) → IsBody old o → option_map (tree_of old) o ≡ q → option_map (tree_of new) o ≡ q
+  body_at None q h e = e
+  body_at (Some t) q h e = ap (λ z. Some z) (g.tree t h.has) ∙ e
 
--- a term under a binder has no loose bound variable
-pub inside_scoped : (bank : Terms) (i : Inside) (y : Name) (B : Tree) (G : Context) → IsInside bank i y B G → IsScoped bank 0 i.term
-inside_scoped bank i y B G h = record { has = h.term.has; within = subst (Within 0) (sym h.term.is) h.within }
+  pub IsHypothesis-grown : (h : Hypothesis) → IsHypothesis old h → IsHypothesis new h
+  IsHypothesis-grown h p = record { name = omega (arith, p.name, g.names); body = IsBody-grown old new g h.body p.body; kind = IsScoped-grown old new g 0 h.kind p.kind }
 
--- under a local definition, whose value the bank had before
-pub let_inside : (bank : Terms) (i : Inside) (G : Context) (x : Name) (A B v w : Tree) → v ≡ w → IsInside bank i (fresh G x) (opened (fresh G x) B) (G ++ record { name = fresh G x; body = Some v; kind = A } ∷ [])
-    → IsInside bank i (fresh G x) (opened (fresh G x) B) (G ++ record { name = fresh G x; body = Some w; kind = A } ∷ [])
-let_inside bank i G x A B v w e h = subst (λ z. IsInside bank i (fresh G x) (opened (fresh G x) B) (G ++ record { name = fresh G x; body = Some z; kind = A } ∷ [])) e h
+  pub hypothesis_at : (h : Hypothesis) (H : TreeHypothesis) → IsHypothesis old h → hypothesis_of old h ≡ H → hypothesis_of new h ≡ H
+  hypothesis_at h H p e = made_of (g.text h.name p.name) (body_at h.body _ p.body refl) (g.tree h.kind p.kind.has) ∙ e
 
--- what stands under a binder, by what the binder's parts stood for before the bank grew
-pub inside_at :
-    (old mid new : Terms) (g : Grows old mid) (i : Inside) (hs : List Hypothesis) (binder : NameId) (kind rest : TermId) (G : Context) → IsContext old hs → HasName old binder → HasTerm old kind → HasTerm old rest → context_of old hs ≡ G
-    → ((H : Context) (x : Name) (A B : Tree) → context_of mid hs ≡ H → text_of mid binder ≡ x → tree_of mid kind ≡ A → tree_of mid rest ≡ B → IsInside new i (fresh H x) (opened (fresh H x) B) (H ++ record { name = fresh H x; body = None; kind = A } ∷ []))
-    → IsInside new i (fresh G (text_of old binder)) (opened (fresh G (text_of old binder)) (tree_of old rest)) (G ++ record { name = fresh G (text_of old binder); body = None; kind = tree_of old kind } ∷ [])
-inside_at old mid new g i hs binder kind rest G p hx hk hr e told =
-    told G (text_of old binder) (tree_of old kind) (tree_of old rest) (context_at old mid g hs G p e) (text_at old mid g binder (text_of old binder) hx refl) (tree_at old mid g kind (tree_of old kind) hk refl) (tree_at old mid g rest (tree_of old rest) hr refl)
+  -- a context that is as it was
+  pub IsContext-kept : (hs ks : List Hypothesis) → ks ≡ hs → IsContext old hs → IsContext new ks
+  IsContext-kept hs ks e h = subst (IsContext new) (sym e) (IsContext-grown old new g hs h)
+
+  pub context_kept : (hs ks : List Hypothesis) (G : Context) → ks ≡ hs → IsContext old hs → context_of old hs ≡ G → context_of new ks ≡ G
+  context_kept hs ks G e h i = ap (context_of new) e ∙ context_at old new g hs G h i
+
+-- the hypothesis that stands for a binder's variable
+pub variable_is :
+    (old named : Terms) (g : Grows old named) (hs : List Hypothesis) (binder y : NameId) (body : Option TermId) (kind : TermId) → IsBody old body → IsScoped old 0 kind → IsName named y (fresh (context_of old hs) (text_of old binder))
+    → (G : Context) (x : Name) (o : Option Tree) (A : Tree) → context_of old hs ≡ G → text_of old binder ≡ x → option_map (tree_of old) body ≡ o → tree_of old kind ≡ A
+    → IsVariable named (record { name = y; body = body; kind = kind }) (record { name = fresh G x; body = o; kind = A })
+variable_is old named g hs binder y body kind hb hk named_as G x o A eg ex eo ea = record {
+  scoped = record { name = named_as.has; body = IsBody-grown old named g body hb; kind = IsScoped-grown old named g 0 kind hk };
+  is = made_of (named_as.is ∙ ap₂ fresh eg ex) (body_at old named g body o hb eo) (tree_at old named g kind A hk.has ea);
+}
+
+-- all that the work under a binder is given, and what it stands for
+pub record Ready (bank : Terms) (ds : List (NameId × Declared)) (hs : List Hypothesis) (v : Hypothesis) (r : TermId) (E : Environment) (G : Context) (H : TreeHypothesis) (B : Tree) : Type 0 where
+  pub env : IsEnv bank ds
+  pub context : IsContext bank hs
+  pub variable : IsHypothesis bank v
+  pub rest : IsScoped bank 1 r
+  pub env_is : env_of bank ds ≡ E
+  pub context_is : context_of bank hs ≡ G
+  pub variable_is : hypothesis_of bank v ≡ H
+  pub rest_is : tree_of bank r ≡ B
+
+pub ready :
+    (old mid new : Terms) (g : Grows old mid) (h : Grows mid new) (ds : List (NameId × Declared)) (hs ks : List Hypothesis) (v : Hypothesis) (binder : NameId) (body : Option TermId) (kind r : TermId) (E : Environment) (G : Context) → ks ≡ hs
+    → IsEnv old ds → env_of old ds ≡ E → IsContext old hs → context_of old hs ≡ G → HasName old binder → IsBody old body → HasTerm old kind → IsScoped old 1 r
+    → ((H : Context) (x : Name) (o : Option Tree) (A : Tree) → context_of mid ks ≡ H → text_of mid binder ≡ x → option_map (tree_of mid) body ≡ o → tree_of mid kind ≡ A → IsVariable new v (record { name = fresh H x; body = o; kind = A }))
+    → Ready new ds ks v r E G (record { name = fresh G (text_of old binder); body = option_map (tree_of old) body; kind = tree_of old kind }) (tree_of old r)
+ready old mid new g h ds hs ks v binder body kind r E G same he ee hc ec hx hb hk hr told =
+    let whole : Grows old new = Grows-trans old mid new g h in
+    let variable : IsVariable new v (record { name = fresh G (text_of old binder); body = option_map (tree_of old) body; kind = tree_of old kind }) =
+    told G (text_of old binder) (option_map (tree_of old) body) (tree_of old kind) (context_kept old mid g hs ks G same hc ec) (g.text binder hx) (body_at old mid g body _ hb refl) (g.tree kind hk) in
+    record {
+      env = IsEnv-grown old new whole ds he;
+      context = IsContext-kept old new whole hs ks same hc;
+      variable = variable.scoped;
+      rest = IsScoped-grown old new whole 1 r hr;
+      env_is = env_at old new whole ds E he ee;
+      context_is = context_kept old new whole hs ks G same hc ec;
+      variable_is = variable.is;
+      rest_is = whole.tree r hr.has;
+    }
+
+-- the work under a binder begins: the term with the variable, in the context with the variable
+pub record Begins (bank : Terms) (ds : List (NameId × Declared)) (hs : List Hypothesis) (t : TermId) (E : Environment) (G : Context) (T : Tree) : Type 0 where
+  pub env : IsEnv bank ds
+  pub context : IsContext bank hs
+  pub term : IsScoped bank 0 t
+  pub env_is : env_of bank ds ≡ E
+  pub context_is : context_of bank hs ≡ G
+  pub term_is : tree_of bank t ≡ T
+
+pub begins :
+    (old new : Terms) (g : Grows old new) (ds : List (NameId × Declared)) (hs ks : List Hypothesis) (v : Hypothesis) (r t : TermId) (E : Environment) (G : Context) (H : TreeHypothesis) (B : Tree) → ks ≡ hs ++ v ∷ []
+    → IsEnv old ds → env_of old ds ≡ E → IsContext old hs → context_of old hs ≡ G → IsHypothesis old v → hypothesis_of old v ≡ H → IsScoped old 1 r → tree_of old r ≡ B → IsTerm new t (opened (text_of old v.name) (tree_of old r))
+    → Begins new ds ks t E (G ++ H ∷ []) (opened H.name B)
+begins old new g ds hs ks v r t E G H B made he ee hc ec hv ev hr er term = record {
+  env = IsEnv-grown old new g ds he;
+  context = subst (IsContext new) (sym made) (IsContext-push new hs v (IsContext-grown old new g hs hc) (IsHypothesis-grown old new g v hv));
+  term = record { has = term.has; within = subst (Within 0) (sym term.is) (within-opened (text_of old v.name) (tree_of old r) hr.within) };
+  env_is = env_at old new g ds E he ee;
+  context_is = ap (context_of new) made ∙ context_of-push new hs v ∙ ap₂ (λ K z. K ++ z ∷ []) (context_at old new g hs G hc ec) (hypothesis_at old new g v H hv ev);
+  term_is = term.is ∙ ap₂ opened (ap (λ z. z.name) ev) er;
+}
+
+-- one hypothesis more and one less
+snoc_same : (a b : Hypothesis) (xs ys : List Hypothesis) → xs ++ a ∷ [] ≡ ys ++ b ∷ [] → xs ≡ ys
+snoc_same a b [] [] e = refl
+snoc_same a b [] (y ∷ []) e = grind (arith, e)
+snoc_same a b [] (y ∷ z ∷ ys) e = grind (arith, e)
+snoc_same a b (x ∷ []) [] e = grind (arith, e)
+snoc_same a b (x ∷ z ∷ xs) [] e = grind (arith, e)
+snoc_same a b (x ∷ xs) (y ∷ ys) e = grind (arith, e, snoc_same a b xs ys)
+
+pub popped : (o : Option Hypothesis) (before pushed after : List Hypothesis) (v : Hypothesis) → pushed ≡ before ++ v ∷ [] → MatchOption o ((pushed ≡ []) × (after ≡ [])) (λ h. pushed ≡ after ++ h ∷ []) → after ≡ before
+popped None [] pushed after v e h = h.1
+popped None (x ∷ xs) pushed after v e h = grind (arith, e, h.0)
+popped (Some k) before pushed after v e h = snoc_same k v after before (sym h ∙ e)

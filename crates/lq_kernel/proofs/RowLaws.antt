@@ -6,10 +6,13 @@ use Rattle.std.specs.Result.{IsErrAnd}
 use Rattle.lq_trees.specs.declared.Sort.{Sort as Universe}
 use Rattle.lq_trees.specs.Tree.{Name, Tree, Context}
 use Rattle.lq_trees.specs.Tree.Tree.{Sort, Prod}
+use Rattle.lq_trees.specs.Index.{Within}
 use Rattle.lq_trees.specs.Fresh.{fresh, opened, under}
 use Rattle.lq_trees.specs.Ticks.{gives, ◌>>=◌, done, ComesTo}
 use Rattle.lq_trees.proofs.TickLaws.{left_of, within_falls}
 use Rattle.lq_trees.proofs.Outcomes.{comes_gives}
+use Rattle.lq_terms.specs.declared.nodes.TermId.{TermId}
+use Rattle.lq_terms.specs.declared.nodes.NameId.{NameId}
 use Rattle.lq_terms.specs.Terms.{Terms}
 use Rattle.lq_calculus.specs.Contraction.{head_form, contract}
 use Rattle.lq_calculus.specs.Declarations.{Env as Environment, all_proofs}
@@ -19,7 +22,8 @@ use Rattle.lq_calculus.proofs.ConvSound.{done_gives}
 use Rattle.lq_calculus.proofs.DeclareSound.{gives_answer}
 use Rattle.lq_kernel.specs.declared.faults.KernelFault.{KernelFault}
 use Rattle.lq_kernel.specs.Answers.{Refuses}
-use Rattle.lq_kernel.specs.Steps.{Sorts, inside_of}
+use Rattle.lq_kernel.specs.Closed.{IsScoped}
+use Rattle.lq_kernel.specs.Steps.{Sorts, IsRow, inside_of}
 use Rattle.lq_kernel.proofs.Goes.{goes_then, goes_tick}
 use Rattle.lq_kernel.proofs.Cycle.{sorts_stop, infer_tick, ticked, out_of_ticks, prod_domain_stops, prod_rest_stops, prod_comes}
 
@@ -114,3 +118,7 @@ module _ (row : List Universe) (i : ℕ) (a : Universe) where
 pub proofs_end : (row : List Universe) (i : ℕ) → length row ≤ i → all_proofs row ≡ all_proofs (drop i row) → true ≡ all_proofs row
 unfolding all_proofs
 proofs_end row i l so_far = sym (so_far ∙ ap all_proofs (drop_all i row l))
+
+-- the rest of a row of products has one loose bound variable at most
+pub rest_scoped : (bank : Terms) (t : TermId) (x : NameId) (kind rest : TermId) → IsScoped bank 0 t → IsRow bank (x, kind, rest) t → IsScoped bank 1 rest
+rest_scoped bank t x kind rest h row = record { has = row.rest; within = (subst (Within 0) row.is h.within).1 }

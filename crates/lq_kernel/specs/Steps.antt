@@ -2,24 +2,24 @@
 use Rattle.std.specs.Prelude.{◌≡◌, ◌+◌, ℕ, suc, List, [], ◌∷◌, map, reverse, Bool, false, Option, Some, None, Result, Ok, Err}
 use Rattle.lq_trees.specs.declared.Sort.{Sort as Universe}
 use Rattle.lq_trees.specs.declared.Fit.{Fit}
-use Rattle.lq_trees.specs.Tree.{Name, Tree, Context}
+use Rattle.lq_trees.specs.Tree.{Name, Tree, Hypothesis as TreeHypothesis, Context}
 use Rattle.lq_trees.specs.Index.{Within}
 use Rattle.lq_trees.specs.Size.{size, fit}
 use Rattle.lq_trees.specs.Ticks.{Paid, gives, fails, cut, tick, ◌>>=◌, done, ComesTo}
 use Rattle.lq_terms.specs.declared.nodes.NameId.{NameId}
 use Rattle.lq_terms.specs.declared.nodes.TermId.{TermId}
+use Rattle.lq_terms.specs.declared.nodes.Hypothesis.{Hypothesis}
 use Rattle.lq_terms.specs.declared.change.SizeFault.{SizeFault}
-use Rattle.lq_terms.specs.Terms.{Terms, HasName, HasTerm, IsName, IsTerm, text_of, tree_of}
-use Rattle.lq_terms.specs.Contexts.{context_of}
+use Rattle.lq_terms.specs.Terms.{Terms, HasName, HasTerm, IsTerm, text_of, tree_of}
+use Rattle.lq_terms.specs.Contexts.{hypothesis_of}
 use Rattle.lq_reduce.specs.declared.faults.ReduceFault.{ReduceFault}
 use Rattle.lq_env.specs.declared.family.EnvFault.{EnvFault}
 use Rattle.lq_calculus.specs.Declarations.{Env as Environment}
 use Rattle.lq_calculus.specs.Typing.{is_product}
 use Rattle.lq_calculus.specs.Checking.{Kernel, unbound, as_product, needed_form, infer, strange}
 use Rattle.lq_kernel.specs.declared.faults.KernelFault.{KernelFault}
-use Rattle.lq_kernel.specs.declared.inside.Inside.{Inside}
 use Rattle.lq_kernel.specs.Answers.{Refuses}
-use Rattle.lq_kernel.specs.Closed.{IsScoped, IsContext}
+use Rattle.lq_kernel.specs.Closed.{IsScoped, IsHypothesis}
 
 -- a term without loose bound variables that stands for the tree, which is within the limits
 pub record IsType (bank : Terms) (t : TermId) (tree : Tree) : Type 0 where
@@ -108,13 +108,10 @@ abbrev pub IsRowOr : Terms → Option (NameId × TermId × TermId) → TermId �
 IsRowOr bank (Some p) t = IsRow bank p t
 IsRowOr bank None t = is_product (tree_of bank t) ≡ false
 
--- what stands under a binder: the name of its variable, the term with it, the context with it
-pub record IsInside (bank : Terms) (inside : Inside) (y : Name) (rest : Tree) (g : Context) : Type 0 where
-  pub name : IsName bank inside.name y
-  pub term : IsTerm bank inside.term rest
-  pub within : Within 0 rest
-  pub context : IsContext bank inside.context
-  pub is : context_of bank inside.context ≡ g
+-- a hypothesis of the bank without loose bound variables, and what it stands for
+pub record IsVariable (bank : Terms) (h : Hypothesis) (tree : TreeHypothesis) : Type 0 where
+  pub scoped : IsHypothesis bank h
+  pub is : hypothesis_of bank h ≡ tree
 
 -- the first of two names that is there
 unfoldable pub or_else : Option Name → Option Name → Option Name

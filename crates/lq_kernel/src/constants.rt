@@ -66,10 +66,10 @@ fn check_constant<L: Ledger>(
         return Err(KernelFault::Env(EnvFault::NameTaken(name)));
     }
     known_alone(work.bank, kind, body)?;
-    let empty = Context::new(work.bank.allocator());
+    let mut context = Context::new(work.bank.allocator());
     let mark = work.bank.mark();
-    sort_in(work, env, &empty, kind, steps)?;
-    check_in(work, env, &empty, body, kind, steps)?;
+    sort_in(work, env, &mut context, kind, steps)?;
+    check_in(work, env, &mut context, body, kind, steps)?;
     work.bank.undo(mark);
     Ok(())
 }

@@ -17,6 +17,7 @@ ghost use Rattle.lq_kernel.specs.Steps.{KnowsAll};
 ghost use Rattle.lq_kernel.specs.Declaring.{IsOffered, constructor_work, FindsSmall};
 
 use crate::faults::KernelFault;
+use crate::inside::copied;
 use crate::looking::known;
 use crate::rows::{all_proofs, first_big, row_sort};
 use crate::typing::sort_in;
@@ -89,7 +90,7 @@ pub(crate) fn sorts_of<L: Ledger>(
 {
     let mut before = Context::new(work.bank.allocator());
     for hypothesis in telescope.hypotheses() {
-        sort_in(work, env, &before, hypothesis.kind, steps)?;
+        sort_in(work, env, &mut before, hypothesis.kind, steps)?;
         before.push(*hypothesis)?;
     }
     Ok(())
@@ -119,8 +120,9 @@ fn check_constructor<L: Ledger>(
     ensures budget { work.new.ticks.now.left + work.new.ticks.now.spent ≡ work.old.ticks.now.left + work.old.ticks.now.spent }
     ensures counted { steps.new + work.old.ticks.now.spent ≡ steps.old + work.new.ticks.now.spent }
 {
+    let mut parameters = copied(work.bank.allocator(), &family.parameters)?;
     let mut row = Vec::new(work.bank.allocator());
-    row_sort(work, env, &family.parameters, kind, &mut row, steps)?;
+    row_sort(work, env, &mut parameters, kind, &mut row, steps)?;
     match first_big(family.sort, &row) {
         Some(argument) => Err(KernelFault::TooBig(name, argument)),
         None => Ok(row),

@@ -1,62 +1,45 @@
-//! What stands under a binder.
+//! Contexts that are lent, and the hypotheses that stand for bound variables.
 
-ghost use Rattle.std.specs.Prelude.{◌≡◌, [], ◌∷◌, ◌++◌, IfOk, option_map};
+ghost use Rattle.std.specs.Prelude.{◌≡◌, IfOk, Option, option_map};
 ghost use Rattle.lq_trees.specs.Tree.{Name, Tree, Context as TreeContext};
-ghost use Rattle.lq_trees.specs.Fresh.{fresh, opened};
+ghost use Rattle.lq_trees.specs.Fresh.{fresh};
 ghost use Rattle.lq_terms.specs.Terms.{HasName, text_of, tree_of, Grows};
 ghost use Rattle.lq_terms.specs.Contexts.{context_of};
 ghost use Rattle.lq_kernel.specs.Closed.{IsScoped, IsBody, IsContext};
-ghost use Rattle.lq_kernel.specs.Steps.{IsInside};
+ghost use Rattle.lq_kernel.specs.Steps.{IsVariable};
 
-use lq_terms::{Bank, Context, Hypothesis, NameId, NoMemory, TermId, name_under, open};
+use lq_terms::{Bank, Context, Hypothesis, NameId, NoMemory, TermId, name_under};
 use std::alloc::Global;
 
-/// The name of a binder's variable, the term under the binder with that variable as a hypothesis, and
-/// the context with that hypothesis.
-#[derive(Drop)]
-pub(crate) struct Inside {
-    pub(crate) name: NameId,
-    pub(crate) term: TermId,
-    pub(crate) context: Context,
-}
-
-/// The same hypotheses, and one more.
-fn extended(alloc: Global, context: &Context, hypothesis: Hypothesis) -> Result<Context, NoMemory>
-    ensures { IfOk result (λ g. g ≡ context.now ++ hypothesis ∷ []) }
+/// The same hypotheses again, to be lent to work that goes under binders.
+pub(crate) fn copied(alloc: Global, context: &Context) -> Result<Context, NoMemory>
+    ensures { IfOk result (λ g. g ≡ context.now) }
 {
-    let mut extended = Context::new(alloc);
-    for earlier in context.hypotheses() {
-        extended.push(*earlier)?;
+    let mut copied = Context::new(alloc);
+    for hypothesis in context.hypotheses() {
+        copied.push(*hypothesis)?;
     }
-    extended.push(hypothesis)?;
-    Ok(extended)
+    Ok(copied)
 }
 
-/// What stands under a binder of that kind, which is a local definition if it has a body.
-pub(crate) fn under(
+/// The hypothesis that stands for a binder's variable of that kind, under a name that none of the context has. It is a
+/// local definition if it has a body.
+pub(crate) fn variable(
     bank: &mut Bank<'_>,
     context: &Context,
     binder: NameId,
     body: Option<TermId>,
     kind: TermId,
-    rest: TermId,
-) -> Result<Inside, NoMemory>
+) -> Result<Hypothesis, NoMemory>
     requires context { IsContext bank.old context.now }
     requires binder { HasName bank.old binder }
     requires body { IsBody bank.old body }
     requires kind { IsScoped bank.old 0 kind }
-    requires rest { IsScoped bank.old 1 rest }
-    ensures inside { (G : TreeContext) (x : Name) (A B : Tree) → context_of bank.old context.now ≡ G → text_of bank.old binder ≡ x → tree_of bank.old kind ≡ A → tree_of bank.old rest ≡ B
-        → IfOk result (λ i. IsInside bank.new i (fresh G x) (opened (fresh G x) B) (G ++ record { name = fresh G x; body = option_map (tree_of bank.old) body; kind = A } ∷ [])) }
+    ensures variable { (G : TreeContext) (x : Name) (o : Option Tree) (A : Tree) → context_of bank.old context.now ≡ G → text_of bank.old binder ≡ x
+        → option_map (tree_of bank.old) body ≡ o → tree_of bank.old kind ≡ A
+        → IfOk result (λ h. IsVariable bank.new h (record { name = fresh G x; body = o; kind = A })) }
     ensures grows { Grows bank.old bank.new }
 {
     let name = name_under(bank, context.hypotheses(), binder)?;
-    let term = open(bank, rest, name)?;
-    let hypothesis = Hypothesis { name, body, kind };
-    let context = extended(bank.allocator(), context, hypothesis)?;
-    Ok(Inside {
-        name,
-        term,
-        context,
-    })
+    Ok(Hypothesis { name, body, kind })
 }

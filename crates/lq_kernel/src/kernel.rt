@@ -15,6 +15,7 @@ use crate::constants::declare_constant;
 use crate::declaration::Declaration;
 use crate::declaring::declare_family;
 use crate::faults::KernelFault;
+use crate::inside::copied;
 use crate::looking::known;
 use crate::typing::{check_in, sort_in, type_of};
 use lq_env::Env;
@@ -46,7 +47,8 @@ pub fn infer<L: Ledger>(
     ensures counted { steps.new + work.old.ticks.now.spent ≡ steps.old + work.new.ticks.now.spent }
 {
     known(work.bank, context.hypotheses(), term)?;
-    type_of(work, env, context, term, steps)
+    let mut lent = copied(work.bank.allocator(), context)?;
+    type_of(work, env, &mut lent, term, steps)
 }
 
 /// Refuses a term that has not the type under the hypotheses of a context: the term's own type is
@@ -75,8 +77,9 @@ pub fn check<L: Ledger>(
 {
     known(work.bank, context.hypotheses(), term)?;
     known(work.bank, context.hypotheses(), wanted)?;
+    let mut lent = copied(work.bank.allocator(), context)?;
     let mark = work.bank.mark();
-    check_in(work, env, context, term, wanted, steps)?;
+    check_in(work, env, &mut lent, term, wanted, steps)?;
     work.bank.undo(mark);
     Ok(())
 }
@@ -101,7 +104,8 @@ pub fn sort_of<L: Ledger>(
     ensures budget { work.new.ticks.now.left + work.new.ticks.now.spent ≡ work.old.ticks.now.left + work.old.ticks.now.spent }
     ensures counted { steps.new + work.old.ticks.now.spent ≡ steps.old + work.new.ticks.now.spent }
 {
-    sort_in(work, env, context, term, steps)
+    let mut lent = copied(work.bank.allocator(), context)?;
+    sort_in(work, env, &mut lent, term, steps)
 }
 
 /// Appends a declaration that passes the checks; the bank grows.

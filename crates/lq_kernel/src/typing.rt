@@ -1,14 +1,16 @@
-//! Inference. It calls itself as deep as the term is.
+//! Inference. It calls itself as deep as the term is. Each call is lent one context, which is as before when it ends: under a
+//! binder it has one hypothesis more.
 
-ghost use Rattle.std.specs.Prelude.{◌≡◌, ◌+◌, ℕ};
-ghost use Rattle.lq_trees.specs.Tree.{Tree, Context as TreeContext};
+ghost use Rattle.std.specs.Prelude.{◌≡◌, ◌+◌, ℕ, [], ◌∷◌, ◌++◌};
+ghost use Rattle.lq_trees.specs.Tree.{Tree, Context as TreeContext, Hypothesis as TreeHypothesis};
+ghost use Rattle.lq_trees.specs.Fresh.{opened};
 ghost use Rattle.lq_terms.specs.Terms.{HasName, text_of, tree_of, Grows};
-ghost use Rattle.lq_terms.specs.Contexts.{context_of};
+ghost use Rattle.lq_terms.specs.Contexts.{context_of, hypothesis_of};
 ghost use Rattle.lq_calculus.specs.Declarations.{Env as Environment};
 ghost use Rattle.lq_calculus.specs.Checking.{infer, sort_of, check};
 ghost use Rattle.lq_env.specs.Environments.{IsEnv, env_of};
 ghost use Rattle.lq_kernel.specs.Answers.{Checks};
-ghost use Rattle.lq_kernel.specs.Closed.{IsScoped, IsContext};
+ghost use Rattle.lq_kernel.specs.Closed.{IsScoped, IsHypothesis, IsContext};
 ghost use Rattle.lq_kernel.specs.Steps.{Types, Sorts, Products, product_of, inside_of};
 
 use crate::faults::KernelFault;
@@ -16,12 +18,12 @@ use crate::forms::{
     application_kind, as_product, as_sort, definition_kind, function_kind, head_form, matching,
     product_sort,
 };
-use crate::inside::under;
+use crate::inside::variable;
 use crate::lookups::{
     constant_type, constructor_type, eliminator_type, family_type, hypothesis_type, sort_type,
 };
 use lq_env::Env;
-use lq_terms::{Context, NameId, Node, Steps, TermId, Work};
+use lq_terms::{Context, Hypothesis, NameId, Node, Steps, TermId, Work, open};
 use lq_trees::Sort;
 use std::sync::ledger::Ledger;
 
@@ -30,15 +32,16 @@ use std::sync::ledger::Ledger;
 pub(crate) fn type_of<L: Ledger>(
     work: &mut Work<'_, '_>,
     env: &Env,
-    context: &Context,
+    context: &mut Context,
     term: TermId,
     steps: &mut Steps<L>,
 ) -> Result<TermId, KernelFault>
     requires term { IsScoped work.old.bank.now 0 term }
     requires env { IsEnv work.old.bank.now env.now }
-    requires context { IsContext work.old.bank.now context.now }
-    ensures answer { (E : Environment) (G : TreeContext) (T : Tree) → env_of work.old.bank.now env.now ≡ E → context_of work.old.bank.now context.now ≡ G → tree_of work.old.bank.now term ≡ T
+    requires context { IsContext work.old.bank.now context.old }
+    ensures answer { (E : Environment) (G : TreeContext) (T : Tree) → env_of work.old.bank.now env.now ≡ E → context_of work.old.bank.now context.old ≡ G → tree_of work.old.bank.now term ≡ T
         → Types work.new.bank.now result (λ n. infer E n G T) work.old.ticks.now.left work.new.ticks.now.left }
+    ensures kept { context.new ≡ context.old }
     ensures same_bank { work.new.bank.ghost_name ≡ work.old.bank.ghost_name }
     ensures same_ticks { work.new.ticks.ghost_name ≡ work.old.ticks.ghost_name }
     ensures grows { Grows work.old.bank.now work.new.bank.now }
@@ -56,15 +59,16 @@ pub(crate) fn type_of<L: Ledger>(
 fn node_type<L: Ledger>(
     work: &mut Work<'_, '_>,
     env: &Env,
-    context: &Context,
+    context: &mut Context,
     term: TermId,
     steps: &mut Steps<L>,
 ) -> Result<TermId, KernelFault>
     requires term { IsScoped work.old.bank.now 0 term }
     requires env { IsEnv work.old.bank.now env.now }
-    requires context { IsContext work.old.bank.now context.now }
-    ensures answer { (E : Environment) (G : TreeContext) (T : Tree) → env_of work.old.bank.now env.now ≡ E → context_of work.old.bank.now context.now ≡ G → tree_of work.old.bank.now term ≡ T
+    requires context { IsContext work.old.bank.now context.old }
+    ensures answer { (E : Environment) (G : TreeContext) (T : Tree) → env_of work.old.bank.now env.now ≡ E → context_of work.old.bank.now context.old ≡ G → tree_of work.old.bank.now term ≡ T
         → Types work.new.bank.now result (inside_of E G T) work.old.ticks.now.left work.new.ticks.now.left }
+    ensures kept { context.new ≡ context.old }
     ensures same_bank { work.new.bank.ghost_name ≡ work.old.bank.ghost_name }
     ensures same_ticks { work.new.ticks.ghost_name ≡ work.old.ticks.ghost_name }
     ensures grows { Grows work.old.bank.now work.new.bank.now }
@@ -110,15 +114,16 @@ fn node_type<L: Ledger>(
 pub(crate) fn sort_in<L: Ledger>(
     work: &mut Work<'_, '_>,
     env: &Env,
-    context: &Context,
+    context: &mut Context,
     term: TermId,
     steps: &mut Steps<L>,
 ) -> Result<Sort, KernelFault>
     requires term { IsScoped work.old.bank.now 0 term }
     requires env { IsEnv work.old.bank.now env.now }
-    requires context { IsContext work.old.bank.now context.now }
-    ensures answer { (E : Environment) (G : TreeContext) (T : Tree) → env_of work.old.bank.now env.now ≡ E → context_of work.old.bank.now context.now ≡ G → tree_of work.old.bank.now term ≡ T
+    requires context { IsContext work.old.bank.now context.old }
+    ensures answer { (E : Environment) (G : TreeContext) (T : Tree) → env_of work.old.bank.now env.now ≡ E → context_of work.old.bank.now context.old ≡ G → tree_of work.old.bank.now term ≡ T
         → Sorts work.new.bank.now result (λ n. sort_of E n G T) work.old.ticks.now.left work.new.ticks.now.left }
+    ensures kept { context.new ≡ context.old }
     ensures same_bank { work.new.bank.ghost_name ≡ work.old.bank.ghost_name }
     ensures same_ticks { work.new.ticks.ghost_name ≡ work.old.ticks.ghost_name }
     ensures grows { Grows work.old.bank.now work.new.bank.now }
@@ -135,15 +140,16 @@ pub(crate) fn sort_in<L: Ledger>(
 fn product_in<L: Ledger>(
     work: &mut Work<'_, '_>,
     env: &Env,
-    context: &Context,
+    context: &mut Context,
     term: TermId,
     steps: &mut Steps<L>,
 ) -> Result<(TermId, TermId), KernelFault>
     requires term { IsScoped work.old.bank.now 0 term }
     requires env { IsEnv work.old.bank.now env.now }
-    requires context { IsContext work.old.bank.now context.now }
-    ensures answer { (E : Environment) (G : TreeContext) (T : Tree) → env_of work.old.bank.now env.now ≡ E → context_of work.old.bank.now context.now ≡ G → tree_of work.old.bank.now term ≡ T
+    requires context { IsContext work.old.bank.now context.old }
+    ensures answer { (E : Environment) (G : TreeContext) (T : Tree) → env_of work.old.bank.now env.now ≡ E → context_of work.old.bank.now context.old ≡ G → tree_of work.old.bank.now term ≡ T
         → Products work.new.bank.now result (λ n. product_of E n G T) work.old.ticks.now.left work.new.ticks.now.left }
+    ensures kept { context.new ≡ context.old }
     ensures same_bank { work.new.bank.ghost_name ≡ work.old.bank.ghost_name }
     ensures same_ticks { work.new.ticks.ghost_name ≡ work.old.ticks.ghost_name }
     ensures grows { Grows work.old.bank.now work.new.bank.now }
@@ -160,7 +166,7 @@ fn product_in<L: Ledger>(
 pub(crate) fn check_in<L: Ledger>(
     work: &mut Work<'_, '_>,
     env: &Env,
-    context: &Context,
+    context: &mut Context,
     term: TermId,
     wanted: TermId,
     steps: &mut Steps<L>,
@@ -168,9 +174,10 @@ pub(crate) fn check_in<L: Ledger>(
     requires term { IsScoped work.old.bank.now 0 term }
     requires wanted { IsScoped work.old.bank.now 0 wanted }
     requires env { IsEnv work.old.bank.now env.now }
-    requires context { IsContext work.old.bank.now context.now }
-    ensures answer { (E : Environment) (G : TreeContext) (T U : Tree) → env_of work.old.bank.now env.now ≡ E → context_of work.old.bank.now context.now ≡ G → tree_of work.old.bank.now term ≡ T → tree_of work.old.bank.now wanted ≡ U
+    requires context { IsContext work.old.bank.now context.old }
+    ensures answer { (E : Environment) (G : TreeContext) (T U : Tree) → env_of work.old.bank.now env.now ≡ E → context_of work.old.bank.now context.old ≡ G → tree_of work.old.bank.now term ≡ T → tree_of work.old.bank.now wanted ≡ U
         → Checks work.new.bank.now result (λ n. check E n G T U) work.old.ticks.now.left work.new.ticks.now.left }
+    ensures kept { context.new ≡ context.old }
     ensures same_bank { work.new.bank.ghost_name ≡ work.old.bank.ghost_name }
     ensures same_ticks { work.new.ticks.ghost_name ≡ work.old.ticks.ghost_name }
     ensures grows { Grows work.old.bank.now work.new.bank.now }
@@ -181,12 +188,72 @@ pub(crate) fn check_in<L: Ledger>(
     matching(work, env, context, found, wanted, steps)
 }
 
+/// The type of what stands under a binder, with that hypothesis for the binder's variable.
+#[cycle(typing)]
+fn type_inside<L: Ledger>(
+    work: &mut Work<'_, '_>,
+    env: &Env,
+    context: &mut Context,
+    variable: Hypothesis,
+    rest: TermId,
+    steps: &mut Steps<L>,
+) -> Result<TermId, KernelFault>
+    requires variable { IsHypothesis work.old.bank.now variable }
+    requires rest { IsScoped work.old.bank.now 1 rest }
+    requires env { IsEnv work.old.bank.now env.now }
+    requires context { IsContext work.old.bank.now context.old }
+    ensures answer { (E : Environment) (G : TreeContext) (H : TreeHypothesis) (B : Tree) → env_of work.old.bank.now env.now ≡ E → context_of work.old.bank.now context.old ≡ G → hypothesis_of work.old.bank.now variable ≡ H
+        → tree_of work.old.bank.now rest ≡ B → Types work.new.bank.now result (λ n. infer E n (G ++ H ∷ []) (opened H.name B)) work.old.ticks.now.left work.new.ticks.now.left }
+    ensures kept { context.new ≡ context.old }
+    ensures same_bank { work.new.bank.ghost_name ≡ work.old.bank.ghost_name }
+    ensures same_ticks { work.new.ticks.ghost_name ≡ work.old.ticks.ghost_name }
+    ensures grows { Grows work.old.bank.now work.new.bank.now }
+    ensures budget { work.new.ticks.now.left + work.new.ticks.now.spent ≡ work.old.ticks.now.left + work.old.ticks.now.spent }
+    ensures counted { steps.new + work.old.ticks.now.spent ≡ steps.old + work.new.ticks.now.spent }
+{
+    let term = open(work.bank, rest, variable.name)?;
+    context.push(variable)?;
+    let kind = type_of(work, env, context, term, steps);
+    context.pop();
+    kind
+}
+
+/// The sort of what stands under a binder, with that hypothesis for the binder's variable.
+#[cycle(typing)]
+fn sort_inside<L: Ledger>(
+    work: &mut Work<'_, '_>,
+    env: &Env,
+    context: &mut Context,
+    variable: Hypothesis,
+    rest: TermId,
+    steps: &mut Steps<L>,
+) -> Result<Sort, KernelFault>
+    requires variable { IsHypothesis work.old.bank.now variable }
+    requires rest { IsScoped work.old.bank.now 1 rest }
+    requires env { IsEnv work.old.bank.now env.now }
+    requires context { IsContext work.old.bank.now context.old }
+    ensures answer { (E : Environment) (G : TreeContext) (H : TreeHypothesis) (B : Tree) → env_of work.old.bank.now env.now ≡ E → context_of work.old.bank.now context.old ≡ G → hypothesis_of work.old.bank.now variable ≡ H
+        → tree_of work.old.bank.now rest ≡ B → Sorts work.new.bank.now result (λ n. sort_of E n (G ++ H ∷ []) (opened H.name B)) work.old.ticks.now.left work.new.ticks.now.left }
+    ensures kept { context.new ≡ context.old }
+    ensures same_bank { work.new.bank.ghost_name ≡ work.old.bank.ghost_name }
+    ensures same_ticks { work.new.ticks.ghost_name ≡ work.old.ticks.ghost_name }
+    ensures grows { Grows work.old.bank.now work.new.bank.now }
+    ensures budget { work.new.ticks.now.left + work.new.ticks.now.spent ≡ work.old.ticks.now.left + work.old.ticks.now.spent }
+    ensures counted { steps.new + work.old.ticks.now.spent ≡ steps.old + work.new.ticks.now.spent }
+{
+    let term = open(work.bank, rest, variable.name)?;
+    context.push(variable)?;
+    let sort = sort_in(work, env, context, term, steps);
+    context.pop();
+    sort
+}
+
 /// The type of a product: the sort of its domain and that of its rest give it.
 #[cycle(typing)]
 fn product_type<L: Ledger>(
     work: &mut Work<'_, '_>,
     env: &Env,
-    context: &Context,
+    context: &mut Context,
     binder: NameId,
     kind: TermId,
     rest: TermId,
@@ -196,9 +263,10 @@ fn product_type<L: Ledger>(
     requires kind { IsScoped work.old.bank.now 0 kind }
     requires rest { IsScoped work.old.bank.now 1 rest }
     requires env { IsEnv work.old.bank.now env.now }
-    requires context { IsContext work.old.bank.now context.now }
-    ensures answer { (E : Environment) (G : TreeContext) → env_of work.old.bank.now env.now ≡ E → context_of work.old.bank.now context.now ≡ G
+    requires context { IsContext work.old.bank.now context.old }
+    ensures answer { (E : Environment) (G : TreeContext) → env_of work.old.bank.now env.now ≡ E → context_of work.old.bank.now context.old ≡ G
         → Types work.new.bank.now result (inside_of E G (Tree.Prod (text_of work.old.bank.now binder) (tree_of work.old.bank.now kind) (tree_of work.old.bank.now rest))) work.old.ticks.now.left work.new.ticks.now.left }
+    ensures kept { context.new ≡ context.old }
     ensures same_bank { work.new.bank.ghost_name ≡ work.old.bank.ghost_name }
     ensures same_ticks { work.new.ticks.ghost_name ≡ work.old.ticks.ghost_name }
     ensures grows { Grows work.old.bank.now work.new.bank.now }
@@ -206,8 +274,8 @@ fn product_type<L: Ledger>(
     ensures counted { steps.new + work.old.ticks.now.spent ≡ steps.old + work.new.ticks.now.spent }
 {
     let domain = sort_in(work, env, context, kind, steps)?;
-    let inside = under(work.bank, context, binder, None, kind, rest)?;
-    let last = sort_in(work, env, &inside.context, inside.term, steps)?;
+    let variable = variable(work.bank, context, binder, None, kind)?;
+    let last = sort_inside(work, env, context, variable, rest, steps)?;
     Ok(work.bank.make(Node::Sort(product_sort(domain, last)))?)
 }
 
@@ -216,7 +284,7 @@ fn product_type<L: Ledger>(
 fn function_type<L: Ledger>(
     work: &mut Work<'_, '_>,
     env: &Env,
-    context: &Context,
+    context: &mut Context,
     binder: NameId,
     kind: TermId,
     rest: TermId,
@@ -226,9 +294,10 @@ fn function_type<L: Ledger>(
     requires kind { IsScoped work.old.bank.now 0 kind }
     requires rest { IsScoped work.old.bank.now 1 rest }
     requires env { IsEnv work.old.bank.now env.now }
-    requires context { IsContext work.old.bank.now context.now }
-    ensures answer { (E : Environment) (G : TreeContext) → env_of work.old.bank.now env.now ≡ E → context_of work.old.bank.now context.now ≡ G
+    requires context { IsContext work.old.bank.now context.old }
+    ensures answer { (E : Environment) (G : TreeContext) → env_of work.old.bank.now env.now ≡ E → context_of work.old.bank.now context.old ≡ G
         → Types work.new.bank.now result (inside_of E G (Tree.Lam (text_of work.old.bank.now binder) (tree_of work.old.bank.now kind) (tree_of work.old.bank.now rest))) work.old.ticks.now.left work.new.ticks.now.left }
+    ensures kept { context.new ≡ context.old }
     ensures same_bank { work.new.bank.ghost_name ≡ work.old.bank.ghost_name }
     ensures same_ticks { work.new.ticks.ghost_name ≡ work.old.ticks.ghost_name }
     ensures grows { Grows work.old.bank.now work.new.bank.now }
@@ -236,9 +305,9 @@ fn function_type<L: Ledger>(
     ensures counted { steps.new + work.old.ticks.now.spent ≡ steps.old + work.new.ticks.now.spent }
 {
     sort_in(work, env, context, kind, steps)?;
-    let inside = under(work.bank, context, binder, None, kind, rest)?;
-    let body = type_of(work, env, &inside.context, inside.term, steps)?;
-    function_kind(work.bank, binder, kind, inside.name, body)
+    let variable = variable(work.bank, context, binder, None, kind)?;
+    let body = type_inside(work, env, context, variable, rest, steps)?;
+    function_kind(work.bank, binder, kind, variable.name, body)
 }
 
 /// The type of a local definition: its type must have a sort, and its value that type.
@@ -246,7 +315,7 @@ fn function_type<L: Ledger>(
 fn definition_type<L: Ledger>(
     work: &mut Work<'_, '_>,
     env: &Env,
-    context: &Context,
+    context: &mut Context,
     binder: NameId,
     value: TermId,
     kind: TermId,
@@ -258,9 +327,10 @@ fn definition_type<L: Ledger>(
     requires kind { IsScoped work.old.bank.now 0 kind }
     requires rest { IsScoped work.old.bank.now 1 rest }
     requires env { IsEnv work.old.bank.now env.now }
-    requires context { IsContext work.old.bank.now context.now }
-    ensures answer { (E : Environment) (G : TreeContext) → env_of work.old.bank.now env.now ≡ E → context_of work.old.bank.now context.now ≡ G
+    requires context { IsContext work.old.bank.now context.old }
+    ensures answer { (E : Environment) (G : TreeContext) → env_of work.old.bank.now env.now ≡ E → context_of work.old.bank.now context.old ≡ G
         → Types work.new.bank.now result (inside_of E G (Tree.Let (text_of work.old.bank.now binder) (tree_of work.old.bank.now value) (tree_of work.old.bank.now kind) (tree_of work.old.bank.now rest))) work.old.ticks.now.left work.new.ticks.now.left }
+    ensures kept { context.new ≡ context.old }
     ensures same_bank { work.new.bank.ghost_name ≡ work.old.bank.ghost_name }
     ensures same_ticks { work.new.ticks.ghost_name ≡ work.old.ticks.ghost_name }
     ensures grows { Grows work.old.bank.now work.new.bank.now }
@@ -269,9 +339,9 @@ fn definition_type<L: Ledger>(
 {
     sort_in(work, env, context, kind, steps)?;
     check_in(work, env, context, value, kind, steps)?;
-    let inside = under(work.bank, context, binder, Some(value), kind, rest)?;
-    let body = type_of(work, env, &inside.context, inside.term, steps)?;
-    definition_kind(work.bank, value, inside.name, body)
+    let variable = variable(work.bank, context, binder, Some(value), kind)?;
+    let body = type_inside(work, env, context, variable, rest, steps)?;
+    definition_kind(work.bank, value, variable.name, body)
 }
 
 /// The type of an application: that of the function must be a product, and the argument must have its domain.
@@ -279,7 +349,7 @@ fn definition_type<L: Ledger>(
 fn application_type<L: Ledger>(
     work: &mut Work<'_, '_>,
     env: &Env,
-    context: &Context,
+    context: &mut Context,
     function: TermId,
     argument: TermId,
     steps: &mut Steps<L>,
@@ -287,9 +357,10 @@ fn application_type<L: Ledger>(
     requires function { IsScoped work.old.bank.now 0 function }
     requires argument { IsScoped work.old.bank.now 0 argument }
     requires env { IsEnv work.old.bank.now env.now }
-    requires context { IsContext work.old.bank.now context.now }
-    ensures answer { (E : Environment) (G : TreeContext) → env_of work.old.bank.now env.now ≡ E → context_of work.old.bank.now context.now ≡ G
+    requires context { IsContext work.old.bank.now context.old }
+    ensures answer { (E : Environment) (G : TreeContext) → env_of work.old.bank.now env.now ≡ E → context_of work.old.bank.now context.old ≡ G
         → Types work.new.bank.now result (inside_of E G (Tree.App (tree_of work.old.bank.now function) (tree_of work.old.bank.now argument))) work.old.ticks.now.left work.new.ticks.now.left }
+    ensures kept { context.new ≡ context.old }
     ensures same_bank { work.new.bank.ghost_name ≡ work.old.bank.ghost_name }
     ensures same_ticks { work.new.ticks.ghost_name ≡ work.old.ticks.ghost_name }
     ensures grows { Grows work.old.bank.now work.new.bank.now }

@@ -25,7 +25,7 @@ returns-in_err-sort_in-clause-answer g c opaque =
     let E = env_of c.args.work.now.bank.now c.args.env.now in
     err_out (λ z. Accepts c.sort_in.new.work.bank.now z (E ++ (text_of c.args.work.now.bank.now c.args.name, constant (tree_of c.args.work.now.bank.now c.args.kind) (tree_of c.args.work.now.bank.now c.args.body) opaque) ∷ []) (λ n. declare_constant E n (text_of c.args.work.now.bank.now c.args.name) (tree_of c.args.work.now.bank.now c.args.kind) (tree_of c.args.work.now.bank.now c.args.body) opaque) c.args.work.now.ticks.now.left c.sort_in.new.work.ticks.now.left) c.from_residual-in_err-sort_in.result c.in_err-sort_in.field-0.0 c.from_residual-in_err-sort_in.ensures.1
     (kind_stops E (text_of c.args.work.now.bank.now c.args.name) (tree_of c.args.work.now.bank.now c.args.kind) (tree_of c.args.work.now.bank.now c.args.body) opaque (sym c.is_taken.ensures ∙ c.if-is_taken.false) c.in_ok-known_alone.ensures c.sort_in.new.work.bank.now c.args.work.now.ticks.now.left c.sort_in.new.work.ticks.now.left c.in_err-sort_in.field-0.0
-    (c.in_err-sort_in.ensures.answer E [] (tree_of c.args.work.now.bank.now c.args.kind) refl (ap (context_of c.args.work.now.bank.now) c.new-empty.ensures) refl))
+    (c.in_err-sort_in.ensures.answer E [] (tree_of c.args.work.now.bank.now c.args.kind) refl (ap (context_of c.args.work.now.bank.now) c.new-context.ensures) refl))
 
 pub check_in-requires-clause-env : goal.check_in-requires-clause-env
 check_in-requires-clause-env g c = IsEnv-grown c.args.work.now.bank.now c.sort_in.new.work.bank.now c.in_ok-sort_in.ensures.grows c.args.env.now c.requires.env
@@ -36,8 +36,8 @@ returns-in_err-check_in-clause-answer g c opaque =
     err_out (λ z. Accepts c.check_in.new.work.bank.now z (E ++ (text_of c.args.work.now.bank.now c.args.name, constant (tree_of c.args.work.now.bank.now c.args.kind) (tree_of c.args.work.now.bank.now c.args.body) opaque) ∷ []) (λ n. declare_constant E n (text_of c.args.work.now.bank.now c.args.name) (tree_of c.args.work.now.bank.now c.args.kind) (tree_of c.args.work.now.bank.now c.args.body) opaque) c.args.work.now.ticks.now.left c.check_in.new.work.ticks.now.left) c.from_residual-in_err-check_in.result c.in_err-check_in.field-0.0 c.from_residual-in_err-check_in.ensures.1
     (constant_ends E (text_of c.args.work.now.bank.now c.args.name) (tree_of c.args.work.now.bank.now c.args.kind) (tree_of c.args.work.now.bank.now c.args.body) opaque (sym c.is_taken.ensures ∙ c.if-is_taken.false) c.in_ok-known_alone.ensures c.check_in.new.work.bank.now c.args.work.now.ticks.now.left c.check_in.new.work.ticks.now.left
     c.in_ok-sort_in.field-0 c.sort_in.new.work.ticks.now.left (Err c.in_err-check_in.field-0.0)
-    (c.in_ok-sort_in.ensures.answer E [] (tree_of c.args.work.now.bank.now c.args.kind) refl (ap (context_of c.args.work.now.bank.now) c.new-empty.ensures) refl)
-    (c.in_err-check_in.ensures.answer E [] (tree_of c.args.work.now.bank.now c.args.body) (tree_of c.args.work.now.bank.now c.args.kind) (env_at c.args.work.now.bank.now c.sort_in.new.work.bank.now c.in_ok-sort_in.ensures.grows c.args.env.now E c.requires.env refl) (ap (context_of c.sort_in.new.work.bank.now) c.new-empty.ensures)
+    (c.in_ok-sort_in.ensures.answer E [] (tree_of c.args.work.now.bank.now c.args.kind) refl (ap (context_of c.args.work.now.bank.now) c.new-context.ensures) refl)
+    (c.in_err-check_in.ensures.answer E [] (tree_of c.args.work.now.bank.now c.args.body) (tree_of c.args.work.now.bank.now c.args.kind) (env_at c.args.work.now.bank.now c.sort_in.new.work.bank.now c.in_ok-sort_in.ensures.grows c.args.env.now E c.requires.env refl) (ap (context_of c.sort_in.new.work.bank.now) (c.in_ok-sort_in.ensures.kept ∙ c.new-context.ensures))
     (tree_at c.args.work.now.bank.now c.sort_in.new.work.bank.now c.in_ok-sort_in.ensures.grows c.args.body _ c.requires.body.has refl) (tree_at c.args.work.now.bank.now c.sort_in.new.work.bank.now c.in_ok-sort_in.ensures.grows c.args.kind _ c.requires.kind.has refl)))
 
 pub returns-clause-answer : goal.returns-clause-answer
@@ -45,8 +45,8 @@ returns-clause-answer g c opaque =
     let E = env_of c.args.work.now.bank.now c.args.env.now in
     constant_ends E (text_of c.args.work.now.bank.now c.args.name) (tree_of c.args.work.now.bank.now c.args.kind) (tree_of c.args.work.now.bank.now c.args.body) opaque (sym c.is_taken.ensures ∙ c.if-is_taken.false) c.in_ok-known_alone.ensures c.check_in.new.work.bank.now c.args.work.now.ticks.now.left c.check_in.new.work.ticks.now.left
     c.in_ok-sort_in.field-0 c.sort_in.new.work.ticks.now.left (Ok tt)
-    (c.in_ok-sort_in.ensures.answer E [] (tree_of c.args.work.now.bank.now c.args.kind) refl (ap (context_of c.args.work.now.bank.now) c.new-empty.ensures) refl)
-    (c.in_ok-check_in.ensures.answer E [] (tree_of c.args.work.now.bank.now c.args.body) (tree_of c.args.work.now.bank.now c.args.kind) (env_at c.args.work.now.bank.now c.sort_in.new.work.bank.now c.in_ok-sort_in.ensures.grows c.args.env.now E c.requires.env refl) (ap (context_of c.sort_in.new.work.bank.now) c.new-empty.ensures)
+    (c.in_ok-sort_in.ensures.answer E [] (tree_of c.args.work.now.bank.now c.args.kind) refl (ap (context_of c.args.work.now.bank.now) c.new-context.ensures) refl)
+    (c.in_ok-check_in.ensures.answer E [] (tree_of c.args.work.now.bank.now c.args.body) (tree_of c.args.work.now.bank.now c.args.kind) (env_at c.args.work.now.bank.now c.sort_in.new.work.bank.now c.in_ok-sort_in.ensures.grows c.args.env.now E c.requires.env refl) (ap (context_of c.sort_in.new.work.bank.now) (c.in_ok-sort_in.ensures.kept ∙ c.new-context.ensures))
     (tree_at c.args.work.now.bank.now c.sort_in.new.work.bank.now c.in_ok-sort_in.ensures.grows c.args.body _ c.requires.body.has refl) (tree_at c.args.work.now.bank.now c.sort_in.new.work.bank.now c.in_ok-sort_in.ensures.grows c.args.kind _ c.requires.kind.has refl))
 
 pub returns-clause-closed : goal.returns-clause-closed

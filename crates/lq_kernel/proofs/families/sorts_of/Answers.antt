@@ -43,7 +43,7 @@ loop-hypothesis-preserved g c =
     let i = c.loop-hypothesis.invariant in
     let whole = subst (IsContext c.args.work.now.bank.now) (sym i.items) c.requires.context in record {
       items = i.items;
-      before = c.in_ok-push.ensures.ok ∙ ap (λ ys. ys ++ get_or c.hypotheses-hypothesis-items.result.now c.loop-hypothesis.hypothesis-index no_hypothesis ∷ []) i.before ∙ sym (take_more c.hypotheses-hypothesis-items.result.now c.loop-hypothesis.hypothesis-index no_hypothesis c.loop-hypothesis-test.true);
+      before = c.in_ok-push.ensures.ok ∙ ap (λ ys. ys ++ get_or c.hypotheses-hypothesis-items.result.now c.loop-hypothesis.hypothesis-index no_hypothesis ∷ []) (c.in_ok-sort_in.ensures.kept ∙ i.before) ∙ sym (take_more c.hypotheses-hypothesis-items.result.now c.loop-hypothesis.hypothesis-index no_hypothesis c.loop-hypothesis-test.true);
       grows = Grows-trans c.args.work.now.bank.now c.loop-hypothesis.work.bank.now c.sort_in.new.work.bank.now i.grows c.in_ok-sort_in.ensures.grows;
       so_far = sorts_later (env_of c.args.work.now.bank.now c.args.env.now) c.args.work.now.bank.now c.hypotheses-hypothesis-items.result.now c.loop-hypothesis.hypothesis-index no_hypothesis c.loop-hypothesis-test.true c.args.work.now.ticks.now.left c.loop-hypothesis.work.ticks.now.left i.so_far c.in_ok-sort_in.field-0 c.sort_in.new.work.ticks.now.left
           (c.in_ok-sort_in.ensures.answer (env_of c.args.work.now.bank.now c.args.env.now) (context_of c.args.work.now.bank.now (take c.loop-hypothesis.hypothesis-index c.hypotheses-hypothesis-items.result.now)) (tree_of c.args.work.now.bank.now (get_or c.hypotheses-hypothesis-items.result.now c.loop-hypothesis.hypothesis-index no_hypothesis).kind)

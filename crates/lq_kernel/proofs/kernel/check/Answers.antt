@@ -1,4 +1,4 @@
-use Rattle.std.proofs.Common.{subst, refl, Ok, Err}
+use Rattle.std.proofs.Common.{subst, ap, refl, Ok, Err}
 use Rattle.lq_terms.specs.Terms.{tree_of}
 use Rattle.lq_terms.specs.Contexts.{context_of}
 use Rattle.lq_env.specs.Environments.{env_of}
@@ -21,10 +21,10 @@ returns-in_err-known-2-clause-answer g c =
 pub returns-in_err-check_in-clause-answer : goal.returns-in_err-check_in-clause-answer
 returns-in_err-check_in-clause-answer g c =
     err_out (λ z. Checks c.check_in.new.work.bank.now z (λ n. check_call (env_of c.args.work.now.bank.now c.args.env.now) n (context_of c.args.work.now.bank.now c.args.context.now) (tree_of c.args.work.now.bank.now c.args.term) (tree_of c.args.work.now.bank.now c.args.wanted)) c.args.work.now.ticks.now.left c.check_in.new.work.ticks.now.left) c.from_residual-in_err-check_in.result c.in_err-check_in.field-0.0 c.from_residual-in_err-check_in.ensures.1
-    (checks_type (env_of c.args.work.now.bank.now c.args.env.now) (context_of c.args.work.now.bank.now c.args.context.now) (tree_of c.args.work.now.bank.now c.args.term) (tree_of c.args.work.now.bank.now c.args.wanted) c.check_in.new.work.bank.now (Err c.in_err-check_in.field-0.0) c.args.work.now.ticks.now.left c.check_in.new.work.ticks.now.left (subst (λ hs. Knows c.args.work.now.bank.now (Ok tt) (names_in (context_of c.args.work.now.bank.now hs)) (tree_of c.args.work.now.bank.now c.args.term)) c.hypotheses.ensures c.in_ok-known.ensures) (subst (λ hs. Knows c.args.work.now.bank.now (Ok tt) (names_in (context_of c.args.work.now.bank.now hs)) (tree_of c.args.work.now.bank.now c.args.wanted)) c.hypotheses-2.ensures c.in_ok-known-2.ensures) (c.in_err-check_in.ensures.answer (env_of c.args.work.now.bank.now c.args.env.now) (context_of c.args.work.now.bank.now c.args.context.now) (tree_of c.args.work.now.bank.now c.args.term) (tree_of c.args.work.now.bank.now c.args.wanted) refl refl refl refl))
+    (checks_type (env_of c.args.work.now.bank.now c.args.env.now) (context_of c.args.work.now.bank.now c.args.context.now) (tree_of c.args.work.now.bank.now c.args.term) (tree_of c.args.work.now.bank.now c.args.wanted) c.check_in.new.work.bank.now (Err c.in_err-check_in.field-0.0) c.args.work.now.ticks.now.left c.check_in.new.work.ticks.now.left (subst (λ hs. Knows c.args.work.now.bank.now (Ok tt) (names_in (context_of c.args.work.now.bank.now hs)) (tree_of c.args.work.now.bank.now c.args.term)) c.hypotheses.ensures c.in_ok-known.ensures) (subst (λ hs. Knows c.args.work.now.bank.now (Ok tt) (names_in (context_of c.args.work.now.bank.now hs)) (tree_of c.args.work.now.bank.now c.args.wanted)) c.hypotheses-2.ensures c.in_ok-known-2.ensures) (c.in_err-check_in.ensures.answer (env_of c.args.work.now.bank.now c.args.env.now) (context_of c.args.work.now.bank.now c.args.context.now) (tree_of c.args.work.now.bank.now c.args.term) (tree_of c.args.work.now.bank.now c.args.wanted) refl (ap (context_of c.args.work.now.bank.now) c.in_ok-lent.ensures) refl refl))
 
 pub returns-clause-answer : goal.returns-clause-answer
-returns-clause-answer g c = (checks_type (env_of c.args.work.now.bank.now c.args.env.now) (context_of c.args.work.now.bank.now c.args.context.now) (tree_of c.args.work.now.bank.now c.args.term) (tree_of c.args.work.now.bank.now c.args.wanted) c.check_in.new.work.bank.now (Ok tt) c.args.work.now.ticks.now.left c.check_in.new.work.ticks.now.left (subst (λ hs. Knows c.args.work.now.bank.now (Ok tt) (names_in (context_of c.args.work.now.bank.now hs)) (tree_of c.args.work.now.bank.now c.args.term)) c.hypotheses.ensures c.in_ok-known.ensures) (subst (λ hs. Knows c.args.work.now.bank.now (Ok tt) (names_in (context_of c.args.work.now.bank.now hs)) (tree_of c.args.work.now.bank.now c.args.wanted)) c.hypotheses-2.ensures c.in_ok-known-2.ensures) (c.in_ok-check_in.ensures.answer (env_of c.args.work.now.bank.now c.args.env.now) (context_of c.args.work.now.bank.now c.args.context.now) (tree_of c.args.work.now.bank.now c.args.term) (tree_of c.args.work.now.bank.now c.args.wanted) refl refl refl refl))
+returns-clause-answer g c = (checks_type (env_of c.args.work.now.bank.now c.args.env.now) (context_of c.args.work.now.bank.now c.args.context.now) (tree_of c.args.work.now.bank.now c.args.term) (tree_of c.args.work.now.bank.now c.args.wanted) c.check_in.new.work.bank.now (Ok tt) c.args.work.now.ticks.now.left c.check_in.new.work.ticks.now.left (subst (λ hs. Knows c.args.work.now.bank.now (Ok tt) (names_in (context_of c.args.work.now.bank.now hs)) (tree_of c.args.work.now.bank.now c.args.term)) c.hypotheses.ensures c.in_ok-known.ensures) (subst (λ hs. Knows c.args.work.now.bank.now (Ok tt) (names_in (context_of c.args.work.now.bank.now hs)) (tree_of c.args.work.now.bank.now c.args.wanted)) c.hypotheses-2.ensures c.in_ok-known-2.ensures) (c.in_ok-check_in.ensures.answer (env_of c.args.work.now.bank.now c.args.env.now) (context_of c.args.work.now.bank.now c.args.context.now) (tree_of c.args.work.now.bank.now c.args.term) (tree_of c.args.work.now.bank.now c.args.wanted) refl (ap (context_of c.args.work.now.bank.now) c.in_ok-lent.ensures) refl refl))
 
 pub returns-clause-derives : goal.returns-clause-derives
-returns-clause-derives g c = checks_derived (env_of c.args.work.now.bank.now c.args.env.now) (context_of c.args.work.now.bank.now c.args.context.now) (tree_of c.args.work.now.bank.now c.args.term) (tree_of c.args.work.now.bank.now c.args.wanted) c.args.work.now.ticks.now.left c.check_in.new.work.ticks.now.left (checks_type (env_of c.args.work.now.bank.now c.args.env.now) (context_of c.args.work.now.bank.now c.args.context.now) (tree_of c.args.work.now.bank.now c.args.term) (tree_of c.args.work.now.bank.now c.args.wanted) c.check_in.new.work.bank.now (Ok tt) c.args.work.now.ticks.now.left c.check_in.new.work.ticks.now.left (subst (λ hs. Knows c.args.work.now.bank.now (Ok tt) (names_in (context_of c.args.work.now.bank.now hs)) (tree_of c.args.work.now.bank.now c.args.term)) c.hypotheses.ensures c.in_ok-known.ensures) (subst (λ hs. Knows c.args.work.now.bank.now (Ok tt) (names_in (context_of c.args.work.now.bank.now hs)) (tree_of c.args.work.now.bank.now c.args.wanted)) c.hypotheses-2.ensures c.in_ok-known-2.ensures) (c.in_ok-check_in.ensures.answer (env_of c.args.work.now.bank.now c.args.env.now) (context_of c.args.work.now.bank.now c.args.context.now) (tree_of c.args.work.now.bank.now c.args.term) (tree_of c.args.work.now.bank.now c.args.wanted) refl refl refl refl))
+returns-clause-derives g c = checks_derived (env_of c.args.work.now.bank.now c.args.env.now) (context_of c.args.work.now.bank.now c.args.context.now) (tree_of c.args.work.now.bank.now c.args.term) (tree_of c.args.work.now.bank.now c.args.wanted) c.args.work.now.ticks.now.left c.check_in.new.work.ticks.now.left (checks_type (env_of c.args.work.now.bank.now c.args.env.now) (context_of c.args.work.now.bank.now c.args.context.now) (tree_of c.args.work.now.bank.now c.args.term) (tree_of c.args.work.now.bank.now c.args.wanted) c.check_in.new.work.bank.now (Ok tt) c.args.work.now.ticks.now.left c.check_in.new.work.ticks.now.left (subst (λ hs. Knows c.args.work.now.bank.now (Ok tt) (names_in (context_of c.args.work.now.bank.now hs)) (tree_of c.args.work.now.bank.now c.args.term)) c.hypotheses.ensures c.in_ok-known.ensures) (subst (λ hs. Knows c.args.work.now.bank.now (Ok tt) (names_in (context_of c.args.work.now.bank.now hs)) (tree_of c.args.work.now.bank.now c.args.wanted)) c.hypotheses-2.ensures c.in_ok-known-2.ensures) (c.in_ok-check_in.ensures.answer (env_of c.args.work.now.bank.now c.args.env.now) (context_of c.args.work.now.bank.now c.args.context.now) (tree_of c.args.work.now.bank.now c.args.term) (tree_of c.args.work.now.bank.now c.args.wanted) refl (ap (context_of c.args.work.now.bank.now) c.in_ok-lent.ensures) refl refl))

@@ -1,11 +1,12 @@
-use Rattle.std.proofs.Common.{◌≡◌, ◌∙◌, refl, ap, arith}
+use Rattle.std.proofs.Common.{◌≡◌, ◌∙◌, refl, ap, arith, [], ◌∷◌, ◌++◌, None, Some}
 use Rattle.lq_trees.proofs.Sizes.{one-le-size}
 use Rattle.lq_trees.specs.Size.{size}
-use Rattle.lq_trees.specs.Fresh.{fresh}
-use Rattle.lq_terms.specs.Terms.{text_of, tree_of}
+use Rattle.lq_trees.specs.Fresh.{fresh, opened}
+use Rattle.lq_terms.specs.Terms.{text_of, tree_of, Grows}
 use Rattle.lq_terms.specs.Contexts.{context_of}
 use Rattle.lq_terms.proofs.Growth.{Grows-trans}
-use Rattle.lq_kernel.proofs.Grown.{IsScoped-grown, IsEnv-grown, IsContext-grown, env_at, context_at, tree_at, text_at, inside_scoped, let_inside}
+use Rattle.lq_env.specs.Environments.{env_of}
+use Rattle.lq_kernel.proofs.Grown.{IsScoped-grown, IsEnv-grown, IsContext-kept, env_at, context_kept, tree_at, ready, begins, popped}
 use Rattle.lq_kernel.proofs.FormLaws.{sort_sorts, product_products}
 use Rattle.lq_kernel.proofs.Cycle.{sorts_stop, sorts_form_stop, sorts_end, products_stop, products_form_stop, products_end, checks_stop, checks_end, ticked, out_of_ticks, evar_work, prod_domain_stops, prod_rest_stops, prod_ends, lam_domain_stops, lam_body_stops, lam_ends, let_domain_stops, let_value_stops, let_rest_stops, let_ends, app_function_stops, app_argument_stops, app_ends, inside_size}
 use Rattle.lq_kernel.proofs.typing.+typing.Goals as goal
@@ -20,17 +21,17 @@ sort_in-head_form-requires-clause-env g t c =
 
 pub sort_in-head_form-requires-clause-context : goal.sort_in-head_form-requires-clause-context
 sort_in-head_form-requires-clause-context g t c =
-    IsContext-grown c.args.work.now.bank.now c.type_of.new.work.bank.now c.in_ok-kind.ensures.grows c.args.context.now c.requires.context
+    IsContext-kept c.args.work.now.bank.now c.type_of.new.work.bank.now c.in_ok-kind.ensures.grows c.args.context.now c.type_of.new.context c.in_ok-kind.ensures.kept c.requires.context
 
 pub sort_in-returns-in_err-form-clause-answer : goal.sort_in-returns-in_err-form-clause-answer
 sort_in-returns-in_err-form-clause-answer g t c E G T e k i =
     sorts_form_stop E G T c.head_form.new.work.bank.now c.args.work.now.ticks.now.left c.head_form.new.work.ticks.now.left (tree_of c.type_of.new.work.bank.now c.in_ok-kind.kind) c.type_of.new.work.ticks.now.left c.from_residual-in_err-form.result c.in_err-form.field-0.0 c.from_residual-in_err-form.ensures.1 (c.in_ok-kind.ensures.answer E G T e k i).1
-    (c.in_err-form.ensures.answer E G (tree_of c.type_of.new.work.bank.now c.in_ok-kind.kind) (env_at c.args.work.now.bank.now c.type_of.new.work.bank.now c.in_ok-kind.ensures.grows c.args.env.now E c.requires.env e) (context_at c.args.work.now.bank.now c.type_of.new.work.bank.now c.in_ok-kind.ensures.grows c.args.context.now G c.requires.context k) refl)
+    (c.in_err-form.ensures.answer E G (tree_of c.type_of.new.work.bank.now c.in_ok-kind.kind) (env_at c.args.work.now.bank.now c.type_of.new.work.bank.now c.in_ok-kind.ensures.grows c.args.env.now E c.requires.env e) (context_kept c.args.work.now.bank.now c.type_of.new.work.bank.now c.in_ok-kind.ensures.grows c.args.context.now c.type_of.new.context G c.in_ok-kind.ensures.kept c.requires.context k) refl)
 
 pub sort_in-returns-clause-answer : goal.sort_in-returns-clause-answer
 sort_in-returns-clause-answer g t c E G T e k i =
     sorts_end E G T c.head_form.new.work.bank.now c.args.work.now.ticks.now.left c.head_form.new.work.ticks.now.left (tree_of c.type_of.new.work.bank.now c.in_ok-kind.kind) (tree_of c.head_form.new.work.bank.now c.in_ok-form.form) c.type_of.new.work.ticks.now.left c.as_sort.result (c.in_ok-kind.ensures.answer E G T e k i).1
-    (c.in_ok-form.ensures.answer E G (tree_of c.type_of.new.work.bank.now c.in_ok-kind.kind) (env_at c.args.work.now.bank.now c.type_of.new.work.bank.now c.in_ok-kind.ensures.grows c.args.env.now E c.requires.env e) (context_at c.args.work.now.bank.now c.type_of.new.work.bank.now c.in_ok-kind.ensures.grows c.args.context.now G c.requires.context k) refl).1 (sort_sorts c.head_form.new.work.bank.now c.as_sort.result c.in_ok-form.form c.head_form.new.work.ticks.now.left (c.in_ok-form.ensures.answer E G (tree_of c.type_of.new.work.bank.now c.in_ok-kind.kind) (env_at c.args.work.now.bank.now c.type_of.new.work.bank.now c.in_ok-kind.ensures.grows c.args.env.now E c.requires.env e) (context_at c.args.work.now.bank.now c.type_of.new.work.bank.now c.in_ok-kind.ensures.grows c.args.context.now G c.requires.context k) refl).0.term.has c.as_sort.ensures)
+    (c.in_ok-form.ensures.answer E G (tree_of c.type_of.new.work.bank.now c.in_ok-kind.kind) (env_at c.args.work.now.bank.now c.type_of.new.work.bank.now c.in_ok-kind.ensures.grows c.args.env.now E c.requires.env e) (context_kept c.args.work.now.bank.now c.type_of.new.work.bank.now c.in_ok-kind.ensures.grows c.args.context.now c.type_of.new.context G c.in_ok-kind.ensures.kept c.requires.context k) refl).1 (sort_sorts c.head_form.new.work.bank.now c.as_sort.result c.in_ok-form.form c.head_form.new.work.ticks.now.left (c.in_ok-form.ensures.answer E G (tree_of c.type_of.new.work.bank.now c.in_ok-kind.kind) (env_at c.args.work.now.bank.now c.type_of.new.work.bank.now c.in_ok-kind.ensures.grows c.args.env.now E c.requires.env e) (context_kept c.args.work.now.bank.now c.type_of.new.work.bank.now c.in_ok-kind.ensures.grows c.args.context.now c.type_of.new.context G c.in_ok-kind.ensures.kept c.requires.context k) refl).0.term.has c.as_sort.ensures)
 
 pub product_in-returns-in_err-kind-clause-answer : goal.product_in-returns-in_err-kind-clause-answer
 product_in-returns-in_err-kind-clause-answer g t c E G T e k i =
@@ -42,17 +43,17 @@ product_in-head_form-requires-clause-env g t c =
 
 pub product_in-head_form-requires-clause-context : goal.product_in-head_form-requires-clause-context
 product_in-head_form-requires-clause-context g t c =
-    IsContext-grown c.args.work.now.bank.now c.type_of.new.work.bank.now c.in_ok-kind.ensures.grows c.args.context.now c.requires.context
+    IsContext-kept c.args.work.now.bank.now c.type_of.new.work.bank.now c.in_ok-kind.ensures.grows c.args.context.now c.type_of.new.context c.in_ok-kind.ensures.kept c.requires.context
 
 pub product_in-returns-in_err-form-clause-answer : goal.product_in-returns-in_err-form-clause-answer
 product_in-returns-in_err-form-clause-answer g t c E G T e k i =
     products_form_stop E G T c.head_form.new.work.bank.now c.args.work.now.ticks.now.left c.head_form.new.work.ticks.now.left (tree_of c.type_of.new.work.bank.now c.in_ok-kind.kind) c.type_of.new.work.ticks.now.left c.from_residual-in_err-form.result c.in_err-form.field-0.0 c.from_residual-in_err-form.ensures.1 (c.in_ok-kind.ensures.answer E G T e k i).1
-    (c.in_err-form.ensures.answer E G (tree_of c.type_of.new.work.bank.now c.in_ok-kind.kind) (env_at c.args.work.now.bank.now c.type_of.new.work.bank.now c.in_ok-kind.ensures.grows c.args.env.now E c.requires.env e) (context_at c.args.work.now.bank.now c.type_of.new.work.bank.now c.in_ok-kind.ensures.grows c.args.context.now G c.requires.context k) refl)
+    (c.in_err-form.ensures.answer E G (tree_of c.type_of.new.work.bank.now c.in_ok-kind.kind) (env_at c.args.work.now.bank.now c.type_of.new.work.bank.now c.in_ok-kind.ensures.grows c.args.env.now E c.requires.env e) (context_kept c.args.work.now.bank.now c.type_of.new.work.bank.now c.in_ok-kind.ensures.grows c.args.context.now c.type_of.new.context G c.in_ok-kind.ensures.kept c.requires.context k) refl)
 
 pub product_in-returns-clause-answer : goal.product_in-returns-clause-answer
 product_in-returns-clause-answer g t c E G T e k i =
     products_end E G T c.head_form.new.work.bank.now c.args.work.now.ticks.now.left c.head_form.new.work.ticks.now.left (tree_of c.type_of.new.work.bank.now c.in_ok-kind.kind) (tree_of c.head_form.new.work.bank.now c.in_ok-form.form) c.type_of.new.work.ticks.now.left c.as_product.result (c.in_ok-kind.ensures.answer E G T e k i).1
-    (c.in_ok-form.ensures.answer E G (tree_of c.type_of.new.work.bank.now c.in_ok-kind.kind) (env_at c.args.work.now.bank.now c.type_of.new.work.bank.now c.in_ok-kind.ensures.grows c.args.env.now E c.requires.env e) (context_at c.args.work.now.bank.now c.type_of.new.work.bank.now c.in_ok-kind.ensures.grows c.args.context.now G c.requires.context k) refl).1 (product_products c.head_form.new.work.bank.now c.as_product.result c.in_ok-form.form c.head_form.new.work.ticks.now.left (c.in_ok-form.ensures.answer E G (tree_of c.type_of.new.work.bank.now c.in_ok-kind.kind) (env_at c.args.work.now.bank.now c.type_of.new.work.bank.now c.in_ok-kind.ensures.grows c.args.env.now E c.requires.env e) (context_at c.args.work.now.bank.now c.type_of.new.work.bank.now c.in_ok-kind.ensures.grows c.args.context.now G c.requires.context k) refl).0.term.has (c.in_ok-form.ensures.answer E G (tree_of c.type_of.new.work.bank.now c.in_ok-kind.kind) (env_at c.args.work.now.bank.now c.type_of.new.work.bank.now c.in_ok-kind.ensures.grows c.args.env.now E c.requires.env e) (context_at c.args.work.now.bank.now c.type_of.new.work.bank.now c.in_ok-kind.ensures.grows c.args.context.now G c.requires.context k) refl).0.within c.as_product.ensures)
+    (c.in_ok-form.ensures.answer E G (tree_of c.type_of.new.work.bank.now c.in_ok-kind.kind) (env_at c.args.work.now.bank.now c.type_of.new.work.bank.now c.in_ok-kind.ensures.grows c.args.env.now E c.requires.env e) (context_kept c.args.work.now.bank.now c.type_of.new.work.bank.now c.in_ok-kind.ensures.grows c.args.context.now c.type_of.new.context G c.in_ok-kind.ensures.kept c.requires.context k) refl).1 (product_products c.head_form.new.work.bank.now c.as_product.result c.in_ok-form.form c.head_form.new.work.ticks.now.left (c.in_ok-form.ensures.answer E G (tree_of c.type_of.new.work.bank.now c.in_ok-kind.kind) (env_at c.args.work.now.bank.now c.type_of.new.work.bank.now c.in_ok-kind.ensures.grows c.args.env.now E c.requires.env e) (context_kept c.args.work.now.bank.now c.type_of.new.work.bank.now c.in_ok-kind.ensures.grows c.args.context.now c.type_of.new.context G c.in_ok-kind.ensures.kept c.requires.context k) refl).0.term.has (c.in_ok-form.ensures.answer E G (tree_of c.type_of.new.work.bank.now c.in_ok-kind.kind) (env_at c.args.work.now.bank.now c.type_of.new.work.bank.now c.in_ok-kind.ensures.grows c.args.env.now E c.requires.env e) (context_kept c.args.work.now.bank.now c.type_of.new.work.bank.now c.in_ok-kind.ensures.grows c.args.context.now c.type_of.new.context G c.in_ok-kind.ensures.kept c.requires.context k) refl).0.within c.as_product.ensures)
 
 pub check_in-returns-in_err-found-clause-answer : goal.check_in-returns-in_err-found-clause-answer
 check_in-returns-in_err-found-clause-answer g t c E G T U e k i j =
@@ -64,12 +65,12 @@ check_in-matching-requires-clause-env g t c =
 
 pub check_in-matching-requires-clause-context : goal.check_in-matching-requires-clause-context
 check_in-matching-requires-clause-context g t c =
-    IsContext-grown c.args.work.now.bank.now c.type_of.new.work.bank.now c.in_ok-found.ensures.grows c.args.context.now c.requires.context
+    IsContext-kept c.args.work.now.bank.now c.type_of.new.work.bank.now c.in_ok-found.ensures.grows c.args.context.now c.type_of.new.context c.in_ok-found.ensures.kept c.requires.context
 
 pub check_in-returns-clause-answer : goal.check_in-returns-clause-answer
 check_in-returns-clause-answer g t c E G T U e k i j =
     checks_end E G T c.matching.new.work.bank.now c.args.work.now.ticks.now.left c.matching.new.work.ticks.now.left U (tree_of c.type_of.new.work.bank.now c.in_ok-found.found) c.type_of.new.work.ticks.now.left c.matching.result (c.in_ok-found.ensures.answer E G T e k i).1
-    (c.matching.ensures.answer E G (tree_of c.type_of.new.work.bank.now c.in_ok-found.found) U (env_at c.args.work.now.bank.now c.type_of.new.work.bank.now c.in_ok-found.ensures.grows c.args.env.now E c.requires.env e) (context_at c.args.work.now.bank.now c.type_of.new.work.bank.now c.in_ok-found.ensures.grows c.args.context.now G c.requires.context k) refl (tree_at c.args.work.now.bank.now c.type_of.new.work.bank.now c.in_ok-found.ensures.grows c.args.wanted U c.requires.wanted.has j))
+    (c.matching.ensures.answer E G (tree_of c.type_of.new.work.bank.now c.in_ok-found.found) U (env_at c.args.work.now.bank.now c.type_of.new.work.bank.now c.in_ok-found.ensures.grows c.args.env.now E c.requires.env e) (context_kept c.args.work.now.bank.now c.type_of.new.work.bank.now c.in_ok-found.ensures.grows c.args.context.now c.type_of.new.context G c.in_ok-found.ensures.kept c.requires.context k) refl (tree_at c.args.work.now.bank.now c.type_of.new.work.bank.now c.in_ok-found.ensures.grows c.args.wanted U c.requires.wanted.has j))
 
 pub type_of-returns-then-not-take-clause-answer : goal.type_of-returns-then-not-take-clause-answer
 type_of-returns-then-not-take-clause-answer g t c E G T e k i =
@@ -91,74 +92,27 @@ pub application_type-check_in-requires : goal.application_type-check_in-requires
 application_type-check_in-requires g t c κs within =
     let same : size (tree_of c.product_in.new.work.bank.now c.args.argument) ≡ size (tree_of c.args.work.now.bank.now c.args.argument) = ap size (c.in_ok-domain.ensures.grows.tree c.args.argument c.requires.argument.has) in (
       omega (arith, one-le-size (tree_of c.args.work.now.bank.now c.args.function)),
-      (within, (IsScoped-grown c.args.work.now.bank.now c.product_in.new.work.bank.now c.in_ok-domain.ensures.grows 0 c.args.argument c.requires.argument, ((c.in_ok-domain.ensures.answer _ _ (tree_of c.args.work.now.bank.now c.args.function) refl refl refl).0.domain, (IsEnv-grown c.args.work.now.bank.now c.product_in.new.work.bank.now c.in_ok-domain.ensures.grows c.args.env.now c.requires.env, IsContext-grown c.args.work.now.bank.now c.product_in.new.work.bank.now c.in_ok-domain.ensures.grows c.args.context.now c.requires.context)))),
+      (within, (IsScoped-grown c.args.work.now.bank.now c.product_in.new.work.bank.now c.in_ok-domain.ensures.grows 0 c.args.argument c.requires.argument, ((c.in_ok-domain.ensures.answer _ _ (tree_of c.args.work.now.bank.now c.args.function) refl refl refl).0.domain, (IsEnv-grown c.args.work.now.bank.now c.product_in.new.work.bank.now c.in_ok-domain.ensures.grows c.args.env.now c.requires.env, IsContext-kept c.args.work.now.bank.now c.product_in.new.work.bank.now c.in_ok-domain.ensures.grows c.args.context.now c.product_in.new.context c.in_ok-domain.ensures.kept c.requires.context)))),
     )
 
 pub application_type-returns-in_err-check_in-clause-answer : goal.application_type-returns-in_err-check_in-clause-answer
 application_type-returns-in_err-check_in-clause-answer g t c E G e k =
     app_argument_stops E G (tree_of c.args.work.now.bank.now c.args.function) (tree_of c.args.work.now.bank.now c.args.argument) c.check_in.new.work.bank.now c.args.work.now.ticks.now.left c.check_in.new.work.ticks.now.left (tree_of c.product_in.new.work.bank.now c.in_ok-domain.domain, tree_of c.product_in.new.work.bank.now c.in_ok-domain.rest) c.product_in.new.work.ticks.now.left c.from_residual-in_err-check_in.result c.in_err-check_in.field-0.0 c.from_residual-in_err-check_in.ensures.1 (c.in_ok-domain.ensures.answer E G (tree_of c.args.work.now.bank.now c.args.function) e k refl).1
-    (c.in_err-check_in.ensures.answer E G (tree_of c.args.work.now.bank.now c.args.argument) (tree_of c.product_in.new.work.bank.now c.in_ok-domain.domain) (env_at c.args.work.now.bank.now c.product_in.new.work.bank.now c.in_ok-domain.ensures.grows c.args.env.now E c.requires.env e) (context_at c.args.work.now.bank.now c.product_in.new.work.bank.now c.in_ok-domain.ensures.grows c.args.context.now G c.requires.context k) (tree_at c.args.work.now.bank.now c.product_in.new.work.bank.now c.in_ok-domain.ensures.grows c.args.argument (tree_of c.args.work.now.bank.now c.args.argument) c.requires.argument.has refl) refl)
+    (c.in_err-check_in.ensures.answer E G (tree_of c.args.work.now.bank.now c.args.argument) (tree_of c.product_in.new.work.bank.now c.in_ok-domain.domain) (env_at c.args.work.now.bank.now c.product_in.new.work.bank.now c.in_ok-domain.ensures.grows c.args.env.now E c.requires.env e) (context_kept c.args.work.now.bank.now c.product_in.new.work.bank.now c.in_ok-domain.ensures.grows c.args.context.now c.product_in.new.context G c.in_ok-domain.ensures.kept c.requires.context k) (tree_at c.args.work.now.bank.now c.product_in.new.work.bank.now c.in_ok-domain.ensures.grows c.args.argument (tree_of c.args.work.now.bank.now c.args.argument) c.requires.argument.has refl) refl)
 
 pub application_type-returns-clause-answer : goal.application_type-returns-clause-answer
 application_type-returns-clause-answer g t c E G e k =
     app_ends E G (tree_of c.args.work.now.bank.now c.args.function) (tree_of c.args.work.now.bank.now c.args.argument) c.application_kind.new.bank c.args.work.now.ticks.now.left c.check_in.new.work.ticks.now.left (tree_of c.product_in.new.work.bank.now c.in_ok-domain.domain, tree_of c.product_in.new.work.bank.now c.in_ok-domain.rest) c.product_in.new.work.ticks.now.left c.application_kind.result c.requires.argument.within (c.in_ok-domain.ensures.answer E G (tree_of c.args.work.now.bank.now c.args.function) e k refl).0.rest.within (c.in_ok-domain.ensures.answer E G (tree_of c.args.work.now.bank.now c.args.function) e k refl).1
-    (c.in_ok-check_in.ensures.answer E G (tree_of c.args.work.now.bank.now c.args.argument) (tree_of c.product_in.new.work.bank.now c.in_ok-domain.domain) (env_at c.args.work.now.bank.now c.product_in.new.work.bank.now c.in_ok-domain.ensures.grows c.args.env.now E c.requires.env e) (context_at c.args.work.now.bank.now c.product_in.new.work.bank.now c.in_ok-domain.ensures.grows c.args.context.now G c.requires.context k) (tree_at c.args.work.now.bank.now c.product_in.new.work.bank.now c.in_ok-domain.ensures.grows c.args.argument (tree_of c.args.work.now.bank.now c.args.argument) c.requires.argument.has refl) refl)
+    (c.in_ok-check_in.ensures.answer E G (tree_of c.args.work.now.bank.now c.args.argument) (tree_of c.product_in.new.work.bank.now c.in_ok-domain.domain) (env_at c.args.work.now.bank.now c.product_in.new.work.bank.now c.in_ok-domain.ensures.grows c.args.env.now E c.requires.env e) (context_kept c.args.work.now.bank.now c.product_in.new.work.bank.now c.in_ok-domain.ensures.grows c.args.context.now c.product_in.new.context G c.in_ok-domain.ensures.kept c.requires.context k) (tree_at c.args.work.now.bank.now c.product_in.new.work.bank.now c.in_ok-domain.ensures.grows c.args.argument (tree_of c.args.work.now.bank.now c.args.argument) c.requires.argument.has refl) refl)
     (c.application_kind.ensures.answer (tree_of c.args.work.now.bank.now c.args.argument) (tree_of c.product_in.new.work.bank.now c.in_ok-domain.rest) (c.in_ok-check_in.ensures.grows.tree c.args.argument (omega (arith, c.requires.argument.has, c.in_ok-domain.ensures.grows.nodes)) ∙ c.in_ok-domain.ensures.grows.tree c.args.argument c.requires.argument.has) (c.in_ok-check_in.ensures.grows.tree c.in_ok-domain.rest (c.in_ok-domain.ensures.answer E G (tree_of c.args.work.now.bank.now c.args.function) e k refl).0.rest.has))
 
 pub product_type-returns-in_err-domain-clause-answer : goal.product_type-returns-in_err-domain-clause-answer
 product_type-returns-in_err-domain-clause-answer g t c E G e k =
     prod_domain_stops E G (text_of c.args.work.now.bank.now c.args.binder) (tree_of c.args.work.now.bank.now c.args.kind) (tree_of c.args.work.now.bank.now c.args.rest) c.sort_in.new.work.bank.now c.args.work.now.ticks.now.left c.sort_in.new.work.ticks.now.left c.from_residual.result c.in_err-domain.field-0.0 c.from_residual.ensures.1 (c.in_err-domain.ensures.answer E G (tree_of c.args.work.now.bank.now c.args.kind) e k refl)
 
-pub product_type-under-requires-clause-context : goal.product_type-under-requires-clause-context
-product_type-under-requires-clause-context g t c =
-    IsContext-grown c.args.work.now.bank.now c.sort_in.new.work.bank.now c.in_ok-domain.ensures.grows c.args.context.now c.requires.context
-
-pub product_type-sort_in-requires-2 : goal.product_type-sort_in-requires-2
-product_type-sort_in-requires-2 g t c κs within =
-    let same : size (tree_of c.under.new.bank c.in_ok-inside.inside.term) ≡ size (tree_of c.args.work.now.bank.now c.args.rest) = inside_size c.under.new.bank c.in_ok-inside.inside.term (fresh (context_of c.args.work.now.bank.now c.args.context.now) (text_of c.args.work.now.bank.now c.args.binder)) (tree_of c.args.work.now.bank.now c.args.rest) (size (tree_of c.args.work.now.bank.now c.args.rest)) (c.in_ok-inside.ensures.inside (context_of c.args.work.now.bank.now c.args.context.now) (text_of c.args.work.now.bank.now c.args.binder) (tree_of c.args.work.now.bank.now c.args.kind) (tree_of c.args.work.now.bank.now c.args.rest) (context_at c.args.work.now.bank.now c.sort_in.new.work.bank.now c.in_ok-domain.ensures.grows c.args.context.now (context_of c.args.work.now.bank.now c.args.context.now) c.requires.context refl) (text_at c.args.work.now.bank.now c.sort_in.new.work.bank.now c.in_ok-domain.ensures.grows c.args.binder (text_of c.args.work.now.bank.now c.args.binder) c.requires.binder refl) (tree_at c.args.work.now.bank.now c.sort_in.new.work.bank.now c.in_ok-domain.ensures.grows c.args.kind (tree_of c.args.work.now.bank.now c.args.kind) c.requires.kind.has refl) (tree_at c.args.work.now.bank.now c.sort_in.new.work.bank.now c.in_ok-domain.ensures.grows c.args.rest (tree_of c.args.work.now.bank.now c.args.rest) c.requires.rest.has refl)).term refl in (
-      omega (arith, one-le-size (tree_of c.args.work.now.bank.now c.args.kind)),
-      (within, (inside_scoped c.under.new.bank c.in_ok-inside.inside _ _ _ (c.in_ok-inside.ensures.inside (context_of c.args.work.now.bank.now c.args.context.now) (text_of c.args.work.now.bank.now c.args.binder) (tree_of c.args.work.now.bank.now c.args.kind) (tree_of c.args.work.now.bank.now c.args.rest) (context_at c.args.work.now.bank.now c.sort_in.new.work.bank.now c.in_ok-domain.ensures.grows c.args.context.now (context_of c.args.work.now.bank.now c.args.context.now) c.requires.context refl) (text_at c.args.work.now.bank.now c.sort_in.new.work.bank.now c.in_ok-domain.ensures.grows c.args.binder (text_of c.args.work.now.bank.now c.args.binder) c.requires.binder refl) (tree_at c.args.work.now.bank.now c.sort_in.new.work.bank.now c.in_ok-domain.ensures.grows c.args.kind (tree_of c.args.work.now.bank.now c.args.kind) c.requires.kind.has refl) (tree_at c.args.work.now.bank.now c.sort_in.new.work.bank.now c.in_ok-domain.ensures.grows c.args.rest (tree_of c.args.work.now.bank.now c.args.rest) c.requires.rest.has refl)), (IsEnv-grown c.args.work.now.bank.now c.under.new.bank (Grows-trans c.args.work.now.bank.now c.sort_in.new.work.bank.now c.under.new.bank c.in_ok-domain.ensures.grows c.in_ok-inside.ensures.grows) c.args.env.now c.requires.env, (c.in_ok-inside.ensures.inside (context_of c.args.work.now.bank.now c.args.context.now) (text_of c.args.work.now.bank.now c.args.binder) (tree_of c.args.work.now.bank.now c.args.kind) (tree_of c.args.work.now.bank.now c.args.rest) (context_at c.args.work.now.bank.now c.sort_in.new.work.bank.now c.in_ok-domain.ensures.grows c.args.context.now (context_of c.args.work.now.bank.now c.args.context.now) c.requires.context refl) (text_at c.args.work.now.bank.now c.sort_in.new.work.bank.now c.in_ok-domain.ensures.grows c.args.binder (text_of c.args.work.now.bank.now c.args.binder) c.requires.binder refl) (tree_at c.args.work.now.bank.now c.sort_in.new.work.bank.now c.in_ok-domain.ensures.grows c.args.kind (tree_of c.args.work.now.bank.now c.args.kind) c.requires.kind.has refl) (tree_at c.args.work.now.bank.now c.sort_in.new.work.bank.now c.in_ok-domain.ensures.grows c.args.rest (tree_of c.args.work.now.bank.now c.args.rest) c.requires.rest.has refl)).context))),
-    )
-
-pub product_type-returns-in_err-last-clause-answer : goal.product_type-returns-in_err-last-clause-answer
-product_type-returns-in_err-last-clause-answer g t c E G e k =
-    prod_rest_stops E G (text_of c.args.work.now.bank.now c.args.binder) (tree_of c.args.work.now.bank.now c.args.kind) (tree_of c.args.work.now.bank.now c.args.rest) c.sort_in-2.new.work.bank.now c.args.work.now.ticks.now.left c.sort_in-2.new.work.ticks.now.left c.in_ok-domain.domain c.sort_in.new.work.ticks.now.left c.from_residual-in_err-last.result c.in_err-last.field-0.0 c.from_residual-in_err-last.ensures.1 (c.in_ok-domain.ensures.answer E G (tree_of c.args.work.now.bank.now c.args.kind) e k refl)
-    (c.in_err-last.ensures.answer E _ _ (env_at c.args.work.now.bank.now c.under.new.bank (Grows-trans c.args.work.now.bank.now c.sort_in.new.work.bank.now c.under.new.bank c.in_ok-domain.ensures.grows c.in_ok-inside.ensures.grows) c.args.env.now E c.requires.env e) (c.in_ok-inside.ensures.inside G (text_of c.args.work.now.bank.now c.args.binder) (tree_of c.args.work.now.bank.now c.args.kind) (tree_of c.args.work.now.bank.now c.args.rest) (context_at c.args.work.now.bank.now c.sort_in.new.work.bank.now c.in_ok-domain.ensures.grows c.args.context.now G c.requires.context k) (text_at c.args.work.now.bank.now c.sort_in.new.work.bank.now c.in_ok-domain.ensures.grows c.args.binder (text_of c.args.work.now.bank.now c.args.binder) c.requires.binder refl) (tree_at c.args.work.now.bank.now c.sort_in.new.work.bank.now c.in_ok-domain.ensures.grows c.args.kind (tree_of c.args.work.now.bank.now c.args.kind) c.requires.kind.has refl) (tree_at c.args.work.now.bank.now c.sort_in.new.work.bank.now c.in_ok-domain.ensures.grows c.args.rest (tree_of c.args.work.now.bank.now c.args.rest) c.requires.rest.has refl)).is (c.in_ok-inside.ensures.inside G (text_of c.args.work.now.bank.now c.args.binder) (tree_of c.args.work.now.bank.now c.args.kind) (tree_of c.args.work.now.bank.now c.args.rest) (context_at c.args.work.now.bank.now c.sort_in.new.work.bank.now c.in_ok-domain.ensures.grows c.args.context.now G c.requires.context k) (text_at c.args.work.now.bank.now c.sort_in.new.work.bank.now c.in_ok-domain.ensures.grows c.args.binder (text_of c.args.work.now.bank.now c.args.binder) c.requires.binder refl) (tree_at c.args.work.now.bank.now c.sort_in.new.work.bank.now c.in_ok-domain.ensures.grows c.args.kind (tree_of c.args.work.now.bank.now c.args.kind) c.requires.kind.has refl) (tree_at c.args.work.now.bank.now c.sort_in.new.work.bank.now c.in_ok-domain.ensures.grows c.args.rest (tree_of c.args.work.now.bank.now c.args.rest) c.requires.rest.has refl)).term.is)
-
-pub product_type-returns-clause-answer : goal.product_type-returns-clause-answer
-product_type-returns-clause-answer g t c E G e k =
-    prod_ends E G (text_of c.args.work.now.bank.now c.args.binder) (tree_of c.args.work.now.bank.now c.args.kind) (tree_of c.args.work.now.bank.now c.args.rest) c.make.new.self c.args.work.now.ticks.now.left c.sort_in-2.new.work.ticks.now.left c.in_ok-domain.domain c.in_ok-last.last c.product_sort.result c.sort_in.new.work.ticks.now.left c.in_ok-make.field-0 (c.in_ok-domain.ensures.answer E G (tree_of c.args.work.now.bank.now c.args.kind) e k refl)
-    (c.in_ok-last.ensures.answer E _ _ (env_at c.args.work.now.bank.now c.under.new.bank (Grows-trans c.args.work.now.bank.now c.sort_in.new.work.bank.now c.under.new.bank c.in_ok-domain.ensures.grows c.in_ok-inside.ensures.grows) c.args.env.now E c.requires.env e) (c.in_ok-inside.ensures.inside G (text_of c.args.work.now.bank.now c.args.binder) (tree_of c.args.work.now.bank.now c.args.kind) (tree_of c.args.work.now.bank.now c.args.rest) (context_at c.args.work.now.bank.now c.sort_in.new.work.bank.now c.in_ok-domain.ensures.grows c.args.context.now G c.requires.context k) (text_at c.args.work.now.bank.now c.sort_in.new.work.bank.now c.in_ok-domain.ensures.grows c.args.binder (text_of c.args.work.now.bank.now c.args.binder) c.requires.binder refl) (tree_at c.args.work.now.bank.now c.sort_in.new.work.bank.now c.in_ok-domain.ensures.grows c.args.kind (tree_of c.args.work.now.bank.now c.args.kind) c.requires.kind.has refl) (tree_at c.args.work.now.bank.now c.sort_in.new.work.bank.now c.in_ok-domain.ensures.grows c.args.rest (tree_of c.args.work.now.bank.now c.args.rest) c.requires.rest.has refl)).is (c.in_ok-inside.ensures.inside G (text_of c.args.work.now.bank.now c.args.binder) (tree_of c.args.work.now.bank.now c.args.kind) (tree_of c.args.work.now.bank.now c.args.rest) (context_at c.args.work.now.bank.now c.sort_in.new.work.bank.now c.in_ok-domain.ensures.grows c.args.context.now G c.requires.context k) (text_at c.args.work.now.bank.now c.sort_in.new.work.bank.now c.in_ok-domain.ensures.grows c.args.binder (text_of c.args.work.now.bank.now c.args.binder) c.requires.binder refl) (tree_at c.args.work.now.bank.now c.sort_in.new.work.bank.now c.in_ok-domain.ensures.grows c.args.kind (tree_of c.args.work.now.bank.now c.args.kind) c.requires.kind.has refl) (tree_at c.args.work.now.bank.now c.sort_in.new.work.bank.now c.in_ok-domain.ensures.grows c.args.rest (tree_of c.args.work.now.bank.now c.args.rest) c.requires.rest.has refl)).term.is) c.product_sort.ensures c.in_ok-make.ensures.made
-
 pub function_type-returns-in_err-sort_in-clause-answer : goal.function_type-returns-in_err-sort_in-clause-answer
 function_type-returns-in_err-sort_in-clause-answer g t c E G e k =
     lam_domain_stops E G (text_of c.args.work.now.bank.now c.args.binder) (tree_of c.args.work.now.bank.now c.args.kind) (tree_of c.args.work.now.bank.now c.args.rest) c.sort_in.new.work.bank.now c.args.work.now.ticks.now.left c.sort_in.new.work.ticks.now.left c.from_residual.result c.in_err-sort_in.field-0.0 c.from_residual.ensures.1 (c.in_err-sort_in.ensures.answer E G (tree_of c.args.work.now.bank.now c.args.kind) e k refl)
-
-pub function_type-under-requires-clause-context : goal.function_type-under-requires-clause-context
-function_type-under-requires-clause-context g t c =
-    IsContext-grown c.args.work.now.bank.now c.sort_in.new.work.bank.now c.in_ok-sort_in.ensures.grows c.args.context.now c.requires.context
-
-pub function_type-type_of-requires : goal.function_type-type_of-requires
-function_type-type_of-requires g t c κs within =
-    let same : size (tree_of c.under.new.bank c.in_ok-inside.inside.term) ≡ size (tree_of c.args.work.now.bank.now c.args.rest) = inside_size c.under.new.bank c.in_ok-inside.inside.term (fresh (context_of c.args.work.now.bank.now c.args.context.now) (text_of c.args.work.now.bank.now c.args.binder)) (tree_of c.args.work.now.bank.now c.args.rest) (size (tree_of c.args.work.now.bank.now c.args.rest)) (c.in_ok-inside.ensures.inside (context_of c.args.work.now.bank.now c.args.context.now) (text_of c.args.work.now.bank.now c.args.binder) (tree_of c.args.work.now.bank.now c.args.kind) (tree_of c.args.work.now.bank.now c.args.rest) (context_at c.args.work.now.bank.now c.sort_in.new.work.bank.now c.in_ok-sort_in.ensures.grows c.args.context.now (context_of c.args.work.now.bank.now c.args.context.now) c.requires.context refl) (text_at c.args.work.now.bank.now c.sort_in.new.work.bank.now c.in_ok-sort_in.ensures.grows c.args.binder (text_of c.args.work.now.bank.now c.args.binder) c.requires.binder refl) (tree_at c.args.work.now.bank.now c.sort_in.new.work.bank.now c.in_ok-sort_in.ensures.grows c.args.kind (tree_of c.args.work.now.bank.now c.args.kind) c.requires.kind.has refl) (tree_at c.args.work.now.bank.now c.sort_in.new.work.bank.now c.in_ok-sort_in.ensures.grows c.args.rest (tree_of c.args.work.now.bank.now c.args.rest) c.requires.rest.has refl)).term refl in (
-      omega (arith, one-le-size (tree_of c.args.work.now.bank.now c.args.kind)),
-      (within, (inside_scoped c.under.new.bank c.in_ok-inside.inside _ _ _ (c.in_ok-inside.ensures.inside (context_of c.args.work.now.bank.now c.args.context.now) (text_of c.args.work.now.bank.now c.args.binder) (tree_of c.args.work.now.bank.now c.args.kind) (tree_of c.args.work.now.bank.now c.args.rest) (context_at c.args.work.now.bank.now c.sort_in.new.work.bank.now c.in_ok-sort_in.ensures.grows c.args.context.now (context_of c.args.work.now.bank.now c.args.context.now) c.requires.context refl) (text_at c.args.work.now.bank.now c.sort_in.new.work.bank.now c.in_ok-sort_in.ensures.grows c.args.binder (text_of c.args.work.now.bank.now c.args.binder) c.requires.binder refl) (tree_at c.args.work.now.bank.now c.sort_in.new.work.bank.now c.in_ok-sort_in.ensures.grows c.args.kind (tree_of c.args.work.now.bank.now c.args.kind) c.requires.kind.has refl) (tree_at c.args.work.now.bank.now c.sort_in.new.work.bank.now c.in_ok-sort_in.ensures.grows c.args.rest (tree_of c.args.work.now.bank.now c.args.rest) c.requires.rest.has refl)), (IsEnv-grown c.args.work.now.bank.now c.under.new.bank (Grows-trans c.args.work.now.bank.now c.sort_in.new.work.bank.now c.under.new.bank c.in_ok-sort_in.ensures.grows c.in_ok-inside.ensures.grows) c.args.env.now c.requires.env, (c.in_ok-inside.ensures.inside (context_of c.args.work.now.bank.now c.args.context.now) (text_of c.args.work.now.bank.now c.args.binder) (tree_of c.args.work.now.bank.now c.args.kind) (tree_of c.args.work.now.bank.now c.args.rest) (context_at c.args.work.now.bank.now c.sort_in.new.work.bank.now c.in_ok-sort_in.ensures.grows c.args.context.now (context_of c.args.work.now.bank.now c.args.context.now) c.requires.context refl) (text_at c.args.work.now.bank.now c.sort_in.new.work.bank.now c.in_ok-sort_in.ensures.grows c.args.binder (text_of c.args.work.now.bank.now c.args.binder) c.requires.binder refl) (tree_at c.args.work.now.bank.now c.sort_in.new.work.bank.now c.in_ok-sort_in.ensures.grows c.args.kind (tree_of c.args.work.now.bank.now c.args.kind) c.requires.kind.has refl) (tree_at c.args.work.now.bank.now c.sort_in.new.work.bank.now c.in_ok-sort_in.ensures.grows c.args.rest (tree_of c.args.work.now.bank.now c.args.rest) c.requires.rest.has refl)).context))),
-    )
-
-pub function_type-returns-in_err-body-clause-answer : goal.function_type-returns-in_err-body-clause-answer
-function_type-returns-in_err-body-clause-answer g t c E G e k =
-    lam_body_stops E G (text_of c.args.work.now.bank.now c.args.binder) (tree_of c.args.work.now.bank.now c.args.kind) (tree_of c.args.work.now.bank.now c.args.rest) c.type_of.new.work.bank.now c.args.work.now.ticks.now.left c.type_of.new.work.ticks.now.left c.in_ok-sort_in.field-0 c.sort_in.new.work.ticks.now.left c.from_residual-in_err-body.result c.in_err-body.field-0.0 c.from_residual-in_err-body.ensures.1 (c.in_ok-sort_in.ensures.answer E G (tree_of c.args.work.now.bank.now c.args.kind) e k refl)
-    (c.in_err-body.ensures.answer E _ _ (env_at c.args.work.now.bank.now c.under.new.bank (Grows-trans c.args.work.now.bank.now c.sort_in.new.work.bank.now c.under.new.bank c.in_ok-sort_in.ensures.grows c.in_ok-inside.ensures.grows) c.args.env.now E c.requires.env e) (c.in_ok-inside.ensures.inside G (text_of c.args.work.now.bank.now c.args.binder) (tree_of c.args.work.now.bank.now c.args.kind) (tree_of c.args.work.now.bank.now c.args.rest) (context_at c.args.work.now.bank.now c.sort_in.new.work.bank.now c.in_ok-sort_in.ensures.grows c.args.context.now G c.requires.context k) (text_at c.args.work.now.bank.now c.sort_in.new.work.bank.now c.in_ok-sort_in.ensures.grows c.args.binder (text_of c.args.work.now.bank.now c.args.binder) c.requires.binder refl) (tree_at c.args.work.now.bank.now c.sort_in.new.work.bank.now c.in_ok-sort_in.ensures.grows c.args.kind (tree_of c.args.work.now.bank.now c.args.kind) c.requires.kind.has refl) (tree_at c.args.work.now.bank.now c.sort_in.new.work.bank.now c.in_ok-sort_in.ensures.grows c.args.rest (tree_of c.args.work.now.bank.now c.args.rest) c.requires.rest.has refl)).is (c.in_ok-inside.ensures.inside G (text_of c.args.work.now.bank.now c.args.binder) (tree_of c.args.work.now.bank.now c.args.kind) (tree_of c.args.work.now.bank.now c.args.rest) (context_at c.args.work.now.bank.now c.sort_in.new.work.bank.now c.in_ok-sort_in.ensures.grows c.args.context.now G c.requires.context k) (text_at c.args.work.now.bank.now c.sort_in.new.work.bank.now c.in_ok-sort_in.ensures.grows c.args.binder (text_of c.args.work.now.bank.now c.args.binder) c.requires.binder refl) (tree_at c.args.work.now.bank.now c.sort_in.new.work.bank.now c.in_ok-sort_in.ensures.grows c.args.kind (tree_of c.args.work.now.bank.now c.args.kind) c.requires.kind.has refl) (tree_at c.args.work.now.bank.now c.sort_in.new.work.bank.now c.in_ok-sort_in.ensures.grows c.args.rest (tree_of c.args.work.now.bank.now c.args.rest) c.requires.rest.has refl)).term.is)
-
-pub function_type-function_kind-requires-clause-name : goal.function_type-function_kind-requires-clause-name
-function_type-function_kind-requires-clause-name g t c =
-    omega (arith, (c.in_ok-inside.ensures.inside (context_of c.args.work.now.bank.now c.args.context.now) (text_of c.args.work.now.bank.now c.args.binder) (tree_of c.args.work.now.bank.now c.args.kind) (tree_of c.args.work.now.bank.now c.args.rest) (context_at c.args.work.now.bank.now c.sort_in.new.work.bank.now c.in_ok-sort_in.ensures.grows c.args.context.now (context_of c.args.work.now.bank.now c.args.context.now) c.requires.context refl) (text_at c.args.work.now.bank.now c.sort_in.new.work.bank.now c.in_ok-sort_in.ensures.grows c.args.binder (text_of c.args.work.now.bank.now c.args.binder) c.requires.binder refl) (tree_at c.args.work.now.bank.now c.sort_in.new.work.bank.now c.in_ok-sort_in.ensures.grows c.args.kind (tree_of c.args.work.now.bank.now c.args.kind) c.requires.kind.has refl) (tree_at c.args.work.now.bank.now c.sort_in.new.work.bank.now c.in_ok-sort_in.ensures.grows c.args.rest (tree_of c.args.work.now.bank.now c.args.rest) c.requires.rest.has refl)).name.has, c.in_ok-body.ensures.grows.names)
-
-pub function_type-returns-clause-answer : goal.function_type-returns-clause-answer
-function_type-returns-clause-answer g t c E G e k =
-    lam_ends E G (text_of c.args.work.now.bank.now c.args.binder) (tree_of c.args.work.now.bank.now c.args.kind) (tree_of c.args.work.now.bank.now c.args.rest) c.function_kind.new.bank c.args.work.now.ticks.now.left c.type_of.new.work.ticks.now.left c.in_ok-sort_in.field-0 (tree_of c.type_of.new.work.bank.now c.in_ok-body.body) c.sort_in.new.work.ticks.now.left c.function_kind.result c.requires.kind.within (c.in_ok-body.ensures.answer E _ _ (env_at c.args.work.now.bank.now c.under.new.bank (Grows-trans c.args.work.now.bank.now c.sort_in.new.work.bank.now c.under.new.bank c.in_ok-sort_in.ensures.grows c.in_ok-inside.ensures.grows) c.args.env.now E c.requires.env e) (c.in_ok-inside.ensures.inside G (text_of c.args.work.now.bank.now c.args.binder) (tree_of c.args.work.now.bank.now c.args.kind) (tree_of c.args.work.now.bank.now c.args.rest) (context_at c.args.work.now.bank.now c.sort_in.new.work.bank.now c.in_ok-sort_in.ensures.grows c.args.context.now G c.requires.context k) (text_at c.args.work.now.bank.now c.sort_in.new.work.bank.now c.in_ok-sort_in.ensures.grows c.args.binder (text_of c.args.work.now.bank.now c.args.binder) c.requires.binder refl) (tree_at c.args.work.now.bank.now c.sort_in.new.work.bank.now c.in_ok-sort_in.ensures.grows c.args.kind (tree_of c.args.work.now.bank.now c.args.kind) c.requires.kind.has refl) (tree_at c.args.work.now.bank.now c.sort_in.new.work.bank.now c.in_ok-sort_in.ensures.grows c.args.rest (tree_of c.args.work.now.bank.now c.args.rest) c.requires.rest.has refl)).is (c.in_ok-inside.ensures.inside G (text_of c.args.work.now.bank.now c.args.binder) (tree_of c.args.work.now.bank.now c.args.kind) (tree_of c.args.work.now.bank.now c.args.rest) (context_at c.args.work.now.bank.now c.sort_in.new.work.bank.now c.in_ok-sort_in.ensures.grows c.args.context.now G c.requires.context k) (text_at c.args.work.now.bank.now c.sort_in.new.work.bank.now c.in_ok-sort_in.ensures.grows c.args.binder (text_of c.args.work.now.bank.now c.args.binder) c.requires.binder refl) (tree_at c.args.work.now.bank.now c.sort_in.new.work.bank.now c.in_ok-sort_in.ensures.grows c.args.kind (tree_of c.args.work.now.bank.now c.args.kind) c.requires.kind.has refl) (tree_at c.args.work.now.bank.now c.sort_in.new.work.bank.now c.in_ok-sort_in.ensures.grows c.args.rest (tree_of c.args.work.now.bank.now c.args.rest) c.requires.rest.has refl)).term.is).0.within (c.in_ok-sort_in.ensures.answer E G (tree_of c.args.work.now.bank.now c.args.kind) e k refl)
-    (c.in_ok-body.ensures.answer E _ _ (env_at c.args.work.now.bank.now c.under.new.bank (Grows-trans c.args.work.now.bank.now c.sort_in.new.work.bank.now c.under.new.bank c.in_ok-sort_in.ensures.grows c.in_ok-inside.ensures.grows) c.args.env.now E c.requires.env e) (c.in_ok-inside.ensures.inside G (text_of c.args.work.now.bank.now c.args.binder) (tree_of c.args.work.now.bank.now c.args.kind) (tree_of c.args.work.now.bank.now c.args.rest) (context_at c.args.work.now.bank.now c.sort_in.new.work.bank.now c.in_ok-sort_in.ensures.grows c.args.context.now G c.requires.context k) (text_at c.args.work.now.bank.now c.sort_in.new.work.bank.now c.in_ok-sort_in.ensures.grows c.args.binder (text_of c.args.work.now.bank.now c.args.binder) c.requires.binder refl) (tree_at c.args.work.now.bank.now c.sort_in.new.work.bank.now c.in_ok-sort_in.ensures.grows c.args.kind (tree_of c.args.work.now.bank.now c.args.kind) c.requires.kind.has refl) (tree_at c.args.work.now.bank.now c.sort_in.new.work.bank.now c.in_ok-sort_in.ensures.grows c.args.rest (tree_of c.args.work.now.bank.now c.args.rest) c.requires.rest.has refl)).is (c.in_ok-inside.ensures.inside G (text_of c.args.work.now.bank.now c.args.binder) (tree_of c.args.work.now.bank.now c.args.kind) (tree_of c.args.work.now.bank.now c.args.rest) (context_at c.args.work.now.bank.now c.sort_in.new.work.bank.now c.in_ok-sort_in.ensures.grows c.args.context.now G c.requires.context k) (text_at c.args.work.now.bank.now c.sort_in.new.work.bank.now c.in_ok-sort_in.ensures.grows c.args.binder (text_of c.args.work.now.bank.now c.args.binder) c.requires.binder refl) (tree_at c.args.work.now.bank.now c.sort_in.new.work.bank.now c.in_ok-sort_in.ensures.grows c.args.kind (tree_of c.args.work.now.bank.now c.args.kind) c.requires.kind.has refl) (tree_at c.args.work.now.bank.now c.sort_in.new.work.bank.now c.in_ok-sort_in.ensures.grows c.args.rest (tree_of c.args.work.now.bank.now c.args.rest) c.requires.rest.has refl)).term.is).1
-    (c.function_kind.ensures.answer (text_of c.args.work.now.bank.now c.args.binder) (fresh G (text_of c.args.work.now.bank.now c.args.binder)) (tree_of c.args.work.now.bank.now c.args.kind) (tree_of c.type_of.new.work.bank.now c.in_ok-body.body) (text_at c.args.work.now.bank.now c.type_of.new.work.bank.now (Grows-trans c.args.work.now.bank.now c.under.new.bank c.type_of.new.work.bank.now (Grows-trans c.args.work.now.bank.now c.sort_in.new.work.bank.now c.under.new.bank c.in_ok-sort_in.ensures.grows c.in_ok-inside.ensures.grows) c.in_ok-body.ensures.grows) c.args.binder (text_of c.args.work.now.bank.now c.args.binder) c.requires.binder refl) (c.in_ok-body.ensures.grows.text c.in_ok-inside.inside.name (c.in_ok-inside.ensures.inside G (text_of c.args.work.now.bank.now c.args.binder) (tree_of c.args.work.now.bank.now c.args.kind) (tree_of c.args.work.now.bank.now c.args.rest) (context_at c.args.work.now.bank.now c.sort_in.new.work.bank.now c.in_ok-sort_in.ensures.grows c.args.context.now G c.requires.context k) (text_at c.args.work.now.bank.now c.sort_in.new.work.bank.now c.in_ok-sort_in.ensures.grows c.args.binder (text_of c.args.work.now.bank.now c.args.binder) c.requires.binder refl) (tree_at c.args.work.now.bank.now c.sort_in.new.work.bank.now c.in_ok-sort_in.ensures.grows c.args.kind (tree_of c.args.work.now.bank.now c.args.kind) c.requires.kind.has refl) (tree_at c.args.work.now.bank.now c.sort_in.new.work.bank.now c.in_ok-sort_in.ensures.grows c.args.rest (tree_of c.args.work.now.bank.now c.args.rest) c.requires.rest.has refl)).name.has ∙ (c.in_ok-inside.ensures.inside G (text_of c.args.work.now.bank.now c.args.binder) (tree_of c.args.work.now.bank.now c.args.kind) (tree_of c.args.work.now.bank.now c.args.rest) (context_at c.args.work.now.bank.now c.sort_in.new.work.bank.now c.in_ok-sort_in.ensures.grows c.args.context.now G c.requires.context k) (text_at c.args.work.now.bank.now c.sort_in.new.work.bank.now c.in_ok-sort_in.ensures.grows c.args.binder (text_of c.args.work.now.bank.now c.args.binder) c.requires.binder refl) (tree_at c.args.work.now.bank.now c.sort_in.new.work.bank.now c.in_ok-sort_in.ensures.grows c.args.kind (tree_of c.args.work.now.bank.now c.args.kind) c.requires.kind.has refl) (tree_at c.args.work.now.bank.now c.sort_in.new.work.bank.now c.in_ok-sort_in.ensures.grows c.args.rest (tree_of c.args.work.now.bank.now c.args.rest) c.requires.rest.has refl)).name.is) (tree_at c.args.work.now.bank.now c.type_of.new.work.bank.now (Grows-trans c.args.work.now.bank.now c.under.new.bank c.type_of.new.work.bank.now (Grows-trans c.args.work.now.bank.now c.sort_in.new.work.bank.now c.under.new.bank c.in_ok-sort_in.ensures.grows c.in_ok-inside.ensures.grows) c.in_ok-body.ensures.grows) c.args.kind (tree_of c.args.work.now.bank.now c.args.kind) c.requires.kind.has refl) refl)
 
 pub definition_type-returns-in_err-sort_in-clause-answer : goal.definition_type-returns-in_err-sort_in-clause-answer
 definition_type-returns-in_err-sort_in-clause-answer g t c E G e k =
@@ -168,38 +122,112 @@ pub definition_type-check_in-requires : goal.definition_type-check_in-requires
 definition_type-check_in-requires g t c κs within =
     let same : size (tree_of c.sort_in.new.work.bank.now c.args.value) ≡ size (tree_of c.args.work.now.bank.now c.args.value) = ap size (c.in_ok-sort_in.ensures.grows.tree c.args.value c.requires.value.has) in (
       omega (arith, one-le-size (tree_of c.args.work.now.bank.now c.args.kind), one-le-size (tree_of c.args.work.now.bank.now c.args.rest)),
-      (within, (IsScoped-grown c.args.work.now.bank.now c.sort_in.new.work.bank.now c.in_ok-sort_in.ensures.grows 0 c.args.value c.requires.value, (IsScoped-grown c.args.work.now.bank.now c.sort_in.new.work.bank.now c.in_ok-sort_in.ensures.grows 0 c.args.kind c.requires.kind, (IsEnv-grown c.args.work.now.bank.now c.sort_in.new.work.bank.now c.in_ok-sort_in.ensures.grows c.args.env.now c.requires.env, IsContext-grown c.args.work.now.bank.now c.sort_in.new.work.bank.now c.in_ok-sort_in.ensures.grows c.args.context.now c.requires.context)))),
+      (within, (IsScoped-grown c.args.work.now.bank.now c.sort_in.new.work.bank.now c.in_ok-sort_in.ensures.grows 0 c.args.value c.requires.value, (IsScoped-grown c.args.work.now.bank.now c.sort_in.new.work.bank.now c.in_ok-sort_in.ensures.grows 0 c.args.kind c.requires.kind, (IsEnv-grown c.args.work.now.bank.now c.sort_in.new.work.bank.now c.in_ok-sort_in.ensures.grows c.args.env.now c.requires.env, IsContext-kept c.args.work.now.bank.now c.sort_in.new.work.bank.now c.in_ok-sort_in.ensures.grows c.args.context.now c.sort_in.new.context c.in_ok-sort_in.ensures.kept c.requires.context)))),
     )
 
 pub definition_type-returns-in_err-check_in-clause-answer : goal.definition_type-returns-in_err-check_in-clause-answer
 definition_type-returns-in_err-check_in-clause-answer g t c E G e k =
     let_value_stops E G (text_of c.args.work.now.bank.now c.args.binder) (tree_of c.args.work.now.bank.now c.args.value) (tree_of c.args.work.now.bank.now c.args.kind) (tree_of c.args.work.now.bank.now c.args.rest) c.check_in.new.work.bank.now c.args.work.now.ticks.now.left c.check_in.new.work.ticks.now.left c.in_ok-sort_in.field-0 c.sort_in.new.work.ticks.now.left c.from_residual-in_err-check_in.result c.in_err-check_in.field-0.0 c.from_residual-in_err-check_in.ensures.1 (c.in_ok-sort_in.ensures.answer E G (tree_of c.args.work.now.bank.now c.args.kind) e k refl)
-    (c.in_err-check_in.ensures.answer E G (tree_of c.args.work.now.bank.now c.args.value) (tree_of c.args.work.now.bank.now c.args.kind) (env_at c.args.work.now.bank.now c.sort_in.new.work.bank.now c.in_ok-sort_in.ensures.grows c.args.env.now E c.requires.env e) (context_at c.args.work.now.bank.now c.sort_in.new.work.bank.now c.in_ok-sort_in.ensures.grows c.args.context.now G c.requires.context k) (tree_at c.args.work.now.bank.now c.sort_in.new.work.bank.now c.in_ok-sort_in.ensures.grows c.args.value (tree_of c.args.work.now.bank.now c.args.value) c.requires.value.has refl) (tree_at c.args.work.now.bank.now c.sort_in.new.work.bank.now c.in_ok-sort_in.ensures.grows c.args.kind (tree_of c.args.work.now.bank.now c.args.kind) c.requires.kind.has refl))
+    (c.in_err-check_in.ensures.answer E G (tree_of c.args.work.now.bank.now c.args.value) (tree_of c.args.work.now.bank.now c.args.kind) (env_at c.args.work.now.bank.now c.sort_in.new.work.bank.now c.in_ok-sort_in.ensures.grows c.args.env.now E c.requires.env e) (context_kept c.args.work.now.bank.now c.sort_in.new.work.bank.now c.in_ok-sort_in.ensures.grows c.args.context.now c.sort_in.new.context G c.in_ok-sort_in.ensures.kept c.requires.context k) (tree_at c.args.work.now.bank.now c.sort_in.new.work.bank.now c.in_ok-sort_in.ensures.grows c.args.value (tree_of c.args.work.now.bank.now c.args.value) c.requires.value.has refl) (tree_at c.args.work.now.bank.now c.sort_in.new.work.bank.now c.in_ok-sort_in.ensures.grows c.args.kind (tree_of c.args.work.now.bank.now c.args.kind) c.requires.kind.has refl))
 
-pub definition_type-under-requires-clause-context : goal.definition_type-under-requires-clause-context
-definition_type-under-requires-clause-context g t c =
-    IsContext-grown c.args.work.now.bank.now c.check_in.new.work.bank.now (Grows-trans c.args.work.now.bank.now c.sort_in.new.work.bank.now c.check_in.new.work.bank.now c.in_ok-sort_in.ensures.grows c.in_ok-check_in.ensures.grows) c.args.context.now c.requires.context
+pub type_inside-type_of-kind-requires : goal.type_inside-type_of-kind-requires
+type_inside-type_of-kind-requires g t c κs within =
+    let r = begins c.args.work.now.bank.now c.open.new.bank c.in_ok-term.ensures.grows c.args.env.now c.args.context.now c.push.new.self c.args.variable c.args.rest c.in_ok-term.term _ _ _ _ c.in_ok-push.ensures.ok c.requires.env refl c.requires.context refl c.requires.variable refl c.requires.rest refl c.in_ok-term.ensures.opened in
+    let same : size (tree_of c.open.new.bank c.in_ok-term.term) ≡ size (tree_of c.args.work.now.bank.now c.args.rest) =
+    inside_size c.open.new.bank c.in_ok-term.term (text_of c.args.work.now.bank.now c.args.variable.name) (tree_of c.args.work.now.bank.now c.args.rest) (size (tree_of c.args.work.now.bank.now c.args.rest)) c.in_ok-term.ensures.opened refl in (omega arith, (within, (r.term, (r.env, r.context))))
 
-pub definition_type-type_of-requires : goal.definition_type-type_of-requires
-definition_type-type_of-requires g t c κs within =
-    let same : size (tree_of c.under.new.bank c.in_ok-inside.inside.term) ≡ size (tree_of c.args.work.now.bank.now c.args.rest) = inside_size c.under.new.bank c.in_ok-inside.inside.term (fresh (context_of c.args.work.now.bank.now c.args.context.now) (text_of c.args.work.now.bank.now c.args.binder)) (tree_of c.args.work.now.bank.now c.args.rest) (size (tree_of c.args.work.now.bank.now c.args.rest)) (let_inside c.under.new.bank c.in_ok-inside.inside (context_of c.args.work.now.bank.now c.args.context.now) (text_of c.args.work.now.bank.now c.args.binder) (tree_of c.args.work.now.bank.now c.args.kind) (tree_of c.args.work.now.bank.now c.args.rest) (tree_of c.check_in.new.work.bank.now c.args.value) (tree_of c.args.work.now.bank.now c.args.value) (tree_at c.args.work.now.bank.now c.check_in.new.work.bank.now (Grows-trans c.args.work.now.bank.now c.sort_in.new.work.bank.now c.check_in.new.work.bank.now c.in_ok-sort_in.ensures.grows c.in_ok-check_in.ensures.grows) c.args.value (tree_of c.args.work.now.bank.now c.args.value) c.requires.value.has refl) (c.in_ok-inside.ensures.inside (context_of c.args.work.now.bank.now c.args.context.now) (text_of c.args.work.now.bank.now c.args.binder) (tree_of c.args.work.now.bank.now c.args.kind) (tree_of c.args.work.now.bank.now c.args.rest) (context_at c.args.work.now.bank.now c.check_in.new.work.bank.now (Grows-trans c.args.work.now.bank.now c.sort_in.new.work.bank.now c.check_in.new.work.bank.now c.in_ok-sort_in.ensures.grows c.in_ok-check_in.ensures.grows) c.args.context.now (context_of c.args.work.now.bank.now c.args.context.now) c.requires.context refl) (text_at c.args.work.now.bank.now c.check_in.new.work.bank.now (Grows-trans c.args.work.now.bank.now c.sort_in.new.work.bank.now c.check_in.new.work.bank.now c.in_ok-sort_in.ensures.grows c.in_ok-check_in.ensures.grows) c.args.binder (text_of c.args.work.now.bank.now c.args.binder) c.requires.binder refl) (tree_at c.args.work.now.bank.now c.check_in.new.work.bank.now (Grows-trans c.args.work.now.bank.now c.sort_in.new.work.bank.now c.check_in.new.work.bank.now c.in_ok-sort_in.ensures.grows c.in_ok-check_in.ensures.grows) c.args.kind (tree_of c.args.work.now.bank.now c.args.kind) c.requires.kind.has refl) (tree_at c.args.work.now.bank.now c.check_in.new.work.bank.now (Grows-trans c.args.work.now.bank.now c.sort_in.new.work.bank.now c.check_in.new.work.bank.now c.in_ok-sort_in.ensures.grows c.in_ok-check_in.ensures.grows) c.args.rest (tree_of c.args.work.now.bank.now c.args.rest) c.requires.rest.has refl))).term refl in (
-      omega (arith, one-le-size (tree_of c.args.work.now.bank.now c.args.kind), one-le-size (tree_of c.args.work.now.bank.now c.args.value)),
-      (within, (inside_scoped c.under.new.bank c.in_ok-inside.inside _ _ _ (let_inside c.under.new.bank c.in_ok-inside.inside (context_of c.args.work.now.bank.now c.args.context.now) (text_of c.args.work.now.bank.now c.args.binder) (tree_of c.args.work.now.bank.now c.args.kind) (tree_of c.args.work.now.bank.now c.args.rest) (tree_of c.check_in.new.work.bank.now c.args.value) (tree_of c.args.work.now.bank.now c.args.value) (tree_at c.args.work.now.bank.now c.check_in.new.work.bank.now (Grows-trans c.args.work.now.bank.now c.sort_in.new.work.bank.now c.check_in.new.work.bank.now c.in_ok-sort_in.ensures.grows c.in_ok-check_in.ensures.grows) c.args.value (tree_of c.args.work.now.bank.now c.args.value) c.requires.value.has refl) (c.in_ok-inside.ensures.inside (context_of c.args.work.now.bank.now c.args.context.now) (text_of c.args.work.now.bank.now c.args.binder) (tree_of c.args.work.now.bank.now c.args.kind) (tree_of c.args.work.now.bank.now c.args.rest) (context_at c.args.work.now.bank.now c.check_in.new.work.bank.now (Grows-trans c.args.work.now.bank.now c.sort_in.new.work.bank.now c.check_in.new.work.bank.now c.in_ok-sort_in.ensures.grows c.in_ok-check_in.ensures.grows) c.args.context.now (context_of c.args.work.now.bank.now c.args.context.now) c.requires.context refl) (text_at c.args.work.now.bank.now c.check_in.new.work.bank.now (Grows-trans c.args.work.now.bank.now c.sort_in.new.work.bank.now c.check_in.new.work.bank.now c.in_ok-sort_in.ensures.grows c.in_ok-check_in.ensures.grows) c.args.binder (text_of c.args.work.now.bank.now c.args.binder) c.requires.binder refl) (tree_at c.args.work.now.bank.now c.check_in.new.work.bank.now (Grows-trans c.args.work.now.bank.now c.sort_in.new.work.bank.now c.check_in.new.work.bank.now c.in_ok-sort_in.ensures.grows c.in_ok-check_in.ensures.grows) c.args.kind (tree_of c.args.work.now.bank.now c.args.kind) c.requires.kind.has refl) (tree_at c.args.work.now.bank.now c.check_in.new.work.bank.now (Grows-trans c.args.work.now.bank.now c.sort_in.new.work.bank.now c.check_in.new.work.bank.now c.in_ok-sort_in.ensures.grows c.in_ok-check_in.ensures.grows) c.args.rest (tree_of c.args.work.now.bank.now c.args.rest) c.requires.rest.has refl))), (IsEnv-grown c.args.work.now.bank.now c.under.new.bank (Grows-trans c.args.work.now.bank.now c.check_in.new.work.bank.now c.under.new.bank (Grows-trans c.args.work.now.bank.now c.sort_in.new.work.bank.now c.check_in.new.work.bank.now c.in_ok-sort_in.ensures.grows c.in_ok-check_in.ensures.grows) c.in_ok-inside.ensures.grows) c.args.env.now c.requires.env, (let_inside c.under.new.bank c.in_ok-inside.inside (context_of c.args.work.now.bank.now c.args.context.now) (text_of c.args.work.now.bank.now c.args.binder) (tree_of c.args.work.now.bank.now c.args.kind) (tree_of c.args.work.now.bank.now c.args.rest) (tree_of c.check_in.new.work.bank.now c.args.value) (tree_of c.args.work.now.bank.now c.args.value) (tree_at c.args.work.now.bank.now c.check_in.new.work.bank.now (Grows-trans c.args.work.now.bank.now c.sort_in.new.work.bank.now c.check_in.new.work.bank.now c.in_ok-sort_in.ensures.grows c.in_ok-check_in.ensures.grows) c.args.value (tree_of c.args.work.now.bank.now c.args.value) c.requires.value.has refl) (c.in_ok-inside.ensures.inside (context_of c.args.work.now.bank.now c.args.context.now) (text_of c.args.work.now.bank.now c.args.binder) (tree_of c.args.work.now.bank.now c.args.kind) (tree_of c.args.work.now.bank.now c.args.rest) (context_at c.args.work.now.bank.now c.check_in.new.work.bank.now (Grows-trans c.args.work.now.bank.now c.sort_in.new.work.bank.now c.check_in.new.work.bank.now c.in_ok-sort_in.ensures.grows c.in_ok-check_in.ensures.grows) c.args.context.now (context_of c.args.work.now.bank.now c.args.context.now) c.requires.context refl) (text_at c.args.work.now.bank.now c.check_in.new.work.bank.now (Grows-trans c.args.work.now.bank.now c.sort_in.new.work.bank.now c.check_in.new.work.bank.now c.in_ok-sort_in.ensures.grows c.in_ok-check_in.ensures.grows) c.args.binder (text_of c.args.work.now.bank.now c.args.binder) c.requires.binder refl) (tree_at c.args.work.now.bank.now c.check_in.new.work.bank.now (Grows-trans c.args.work.now.bank.now c.sort_in.new.work.bank.now c.check_in.new.work.bank.now c.in_ok-sort_in.ensures.grows c.in_ok-check_in.ensures.grows) c.args.kind (tree_of c.args.work.now.bank.now c.args.kind) c.requires.kind.has refl) (tree_at c.args.work.now.bank.now c.check_in.new.work.bank.now (Grows-trans c.args.work.now.bank.now c.sort_in.new.work.bank.now c.check_in.new.work.bank.now c.in_ok-sort_in.ensures.grows c.in_ok-check_in.ensures.grows) c.args.rest (tree_of c.args.work.now.bank.now c.args.rest) c.requires.rest.has refl))).context))),
-    )
+pub type_inside-returns-clause-answer : goal.type_inside-returns-clause-answer
+type_inside-returns-clause-answer g t c E G H B e k v i =
+    let r = begins c.args.work.now.bank.now c.open.new.bank c.in_ok-term.ensures.grows c.args.env.now c.args.context.now c.push.new.self c.args.variable c.args.rest c.in_ok-term.term E G H B c.in_ok-push.ensures.ok c.requires.env e c.requires.context k c.requires.variable v c.requires.rest i c.in_ok-term.ensures.opened in
+    c.type_of-kind.ensures.answer E (G ++ H ∷ []) (opened H.name B) r.env_is r.context_is r.term_is
 
-pub definition_type-returns-in_err-body-clause-answer : goal.definition_type-returns-in_err-body-clause-answer
-definition_type-returns-in_err-body-clause-answer g t c E G e k =
-    let_rest_stops E G (text_of c.args.work.now.bank.now c.args.binder) (tree_of c.args.work.now.bank.now c.args.value) (tree_of c.args.work.now.bank.now c.args.kind) (tree_of c.args.work.now.bank.now c.args.rest) c.type_of.new.work.bank.now c.args.work.now.ticks.now.left c.type_of.new.work.ticks.now.left c.in_ok-sort_in.field-0 c.sort_in.new.work.ticks.now.left c.check_in.new.work.ticks.now.left c.from_residual-in_err-body.result c.in_err-body.field-0.0 c.from_residual-in_err-body.ensures.1 (c.in_ok-sort_in.ensures.answer E G (tree_of c.args.work.now.bank.now c.args.kind) e k refl)
-    (c.in_ok-check_in.ensures.answer E G (tree_of c.args.work.now.bank.now c.args.value) (tree_of c.args.work.now.bank.now c.args.kind) (env_at c.args.work.now.bank.now c.sort_in.new.work.bank.now c.in_ok-sort_in.ensures.grows c.args.env.now E c.requires.env e) (context_at c.args.work.now.bank.now c.sort_in.new.work.bank.now c.in_ok-sort_in.ensures.grows c.args.context.now G c.requires.context k) (tree_at c.args.work.now.bank.now c.sort_in.new.work.bank.now c.in_ok-sort_in.ensures.grows c.args.value (tree_of c.args.work.now.bank.now c.args.value) c.requires.value.has refl) (tree_at c.args.work.now.bank.now c.sort_in.new.work.bank.now c.in_ok-sort_in.ensures.grows c.args.kind (tree_of c.args.work.now.bank.now c.args.kind) c.requires.kind.has refl))
-    (c.in_err-body.ensures.answer E _ _ (env_at c.args.work.now.bank.now c.under.new.bank (Grows-trans c.args.work.now.bank.now c.check_in.new.work.bank.now c.under.new.bank (Grows-trans c.args.work.now.bank.now c.sort_in.new.work.bank.now c.check_in.new.work.bank.now c.in_ok-sort_in.ensures.grows c.in_ok-check_in.ensures.grows) c.in_ok-inside.ensures.grows) c.args.env.now E c.requires.env e) (let_inside c.under.new.bank c.in_ok-inside.inside G (text_of c.args.work.now.bank.now c.args.binder) (tree_of c.args.work.now.bank.now c.args.kind) (tree_of c.args.work.now.bank.now c.args.rest) (tree_of c.check_in.new.work.bank.now c.args.value) (tree_of c.args.work.now.bank.now c.args.value) (tree_at c.args.work.now.bank.now c.check_in.new.work.bank.now (Grows-trans c.args.work.now.bank.now c.sort_in.new.work.bank.now c.check_in.new.work.bank.now c.in_ok-sort_in.ensures.grows c.in_ok-check_in.ensures.grows) c.args.value (tree_of c.args.work.now.bank.now c.args.value) c.requires.value.has refl) (c.in_ok-inside.ensures.inside G (text_of c.args.work.now.bank.now c.args.binder) (tree_of c.args.work.now.bank.now c.args.kind) (tree_of c.args.work.now.bank.now c.args.rest) (context_at c.args.work.now.bank.now c.check_in.new.work.bank.now (Grows-trans c.args.work.now.bank.now c.sort_in.new.work.bank.now c.check_in.new.work.bank.now c.in_ok-sort_in.ensures.grows c.in_ok-check_in.ensures.grows) c.args.context.now G c.requires.context k) (text_at c.args.work.now.bank.now c.check_in.new.work.bank.now (Grows-trans c.args.work.now.bank.now c.sort_in.new.work.bank.now c.check_in.new.work.bank.now c.in_ok-sort_in.ensures.grows c.in_ok-check_in.ensures.grows) c.args.binder (text_of c.args.work.now.bank.now c.args.binder) c.requires.binder refl) (tree_at c.args.work.now.bank.now c.check_in.new.work.bank.now (Grows-trans c.args.work.now.bank.now c.sort_in.new.work.bank.now c.check_in.new.work.bank.now c.in_ok-sort_in.ensures.grows c.in_ok-check_in.ensures.grows) c.args.kind (tree_of c.args.work.now.bank.now c.args.kind) c.requires.kind.has refl) (tree_at c.args.work.now.bank.now c.check_in.new.work.bank.now (Grows-trans c.args.work.now.bank.now c.sort_in.new.work.bank.now c.check_in.new.work.bank.now c.in_ok-sort_in.ensures.grows c.in_ok-check_in.ensures.grows) c.args.rest (tree_of c.args.work.now.bank.now c.args.rest) c.requires.rest.has refl))).is (let_inside c.under.new.bank c.in_ok-inside.inside G (text_of c.args.work.now.bank.now c.args.binder) (tree_of c.args.work.now.bank.now c.args.kind) (tree_of c.args.work.now.bank.now c.args.rest) (tree_of c.check_in.new.work.bank.now c.args.value) (tree_of c.args.work.now.bank.now c.args.value) (tree_at c.args.work.now.bank.now c.check_in.new.work.bank.now (Grows-trans c.args.work.now.bank.now c.sort_in.new.work.bank.now c.check_in.new.work.bank.now c.in_ok-sort_in.ensures.grows c.in_ok-check_in.ensures.grows) c.args.value (tree_of c.args.work.now.bank.now c.args.value) c.requires.value.has refl) (c.in_ok-inside.ensures.inside G (text_of c.args.work.now.bank.now c.args.binder) (tree_of c.args.work.now.bank.now c.args.kind) (tree_of c.args.work.now.bank.now c.args.rest) (context_at c.args.work.now.bank.now c.check_in.new.work.bank.now (Grows-trans c.args.work.now.bank.now c.sort_in.new.work.bank.now c.check_in.new.work.bank.now c.in_ok-sort_in.ensures.grows c.in_ok-check_in.ensures.grows) c.args.context.now G c.requires.context k) (text_at c.args.work.now.bank.now c.check_in.new.work.bank.now (Grows-trans c.args.work.now.bank.now c.sort_in.new.work.bank.now c.check_in.new.work.bank.now c.in_ok-sort_in.ensures.grows c.in_ok-check_in.ensures.grows) c.args.binder (text_of c.args.work.now.bank.now c.args.binder) c.requires.binder refl) (tree_at c.args.work.now.bank.now c.check_in.new.work.bank.now (Grows-trans c.args.work.now.bank.now c.sort_in.new.work.bank.now c.check_in.new.work.bank.now c.in_ok-sort_in.ensures.grows c.in_ok-check_in.ensures.grows) c.args.kind (tree_of c.args.work.now.bank.now c.args.kind) c.requires.kind.has refl) (tree_at c.args.work.now.bank.now c.check_in.new.work.bank.now (Grows-trans c.args.work.now.bank.now c.sort_in.new.work.bank.now c.check_in.new.work.bank.now c.in_ok-sort_in.ensures.grows c.in_ok-check_in.ensures.grows) c.args.rest (tree_of c.args.work.now.bank.now c.args.rest) c.requires.rest.has refl))).term.is)
+pub type_inside-returns-clause-kept : goal.type_inside-returns-clause-kept
+type_inside-returns-clause-kept g t c = popped c.pop.result c.args.context.now c.type_of-kind.new.context c.pop.new.self c.args.variable (c.type_of-kind.ensures.kept ∙ c.in_ok-push.ensures.ok) c.pop.ensures
+
+pub sort_inside-sort_in-sort-requires : goal.sort_inside-sort_in-sort-requires
+sort_inside-sort_in-sort-requires g t c κs within =
+    let r = begins c.args.work.now.bank.now c.open.new.bank c.in_ok-term.ensures.grows c.args.env.now c.args.context.now c.push.new.self c.args.variable c.args.rest c.in_ok-term.term _ _ _ _ c.in_ok-push.ensures.ok c.requires.env refl c.requires.context refl c.requires.variable refl c.requires.rest refl c.in_ok-term.ensures.opened in
+    let same : size (tree_of c.open.new.bank c.in_ok-term.term) ≡ size (tree_of c.args.work.now.bank.now c.args.rest) =
+    inside_size c.open.new.bank c.in_ok-term.term (text_of c.args.work.now.bank.now c.args.variable.name) (tree_of c.args.work.now.bank.now c.args.rest) (size (tree_of c.args.work.now.bank.now c.args.rest)) c.in_ok-term.ensures.opened refl in (omega arith, (within, (r.term, (r.env, r.context))))
+
+pub sort_inside-returns-clause-answer : goal.sort_inside-returns-clause-answer
+sort_inside-returns-clause-answer g t c E G H B e k v i =
+    let r = begins c.args.work.now.bank.now c.open.new.bank c.in_ok-term.ensures.grows c.args.env.now c.args.context.now c.push.new.self c.args.variable c.args.rest c.in_ok-term.term E G H B c.in_ok-push.ensures.ok c.requires.env e c.requires.context k c.requires.variable v c.requires.rest i c.in_ok-term.ensures.opened in
+    c.sort_in-sort.ensures.answer E (G ++ H ∷ []) (opened H.name B) r.env_is r.context_is r.term_is
+
+pub sort_inside-returns-clause-kept : goal.sort_inside-returns-clause-kept
+sort_inside-returns-clause-kept g t c = popped c.pop.result c.args.context.now c.sort_in-sort.new.context c.pop.new.self c.args.variable (c.sort_in-sort.ensures.kept ∙ c.in_ok-push.ensures.ok) c.pop.ensures
+
+pub product_type-variable-requires-clause-context : goal.product_type-variable-requires-clause-context
+product_type-variable-requires-clause-context g t c = IsContext-kept c.args.work.now.bank.now c.sort_in.new.work.bank.now c.in_ok-domain.ensures.grows c.args.context.now c.sort_in.new.context c.in_ok-domain.ensures.kept c.requires.context
+
+pub product_type-sort_inside-requires : goal.product_type-sort_inside-requires
+product_type-sort_inside-requires g t c κs within =
+    let r = ready c.args.work.now.bank.now c.sort_in.new.work.bank.now c.variable.new.bank c.in_ok-domain.ensures.grows c.in_ok-variable.ensures.grows c.args.env.now c.args.context.now c.sort_in.new.context c.in_ok-variable.variable c.args.binder None c.args.kind c.args.rest (env_of c.args.work.now.bank.now c.args.env.now) (context_of c.args.work.now.bank.now c.args.context.now) c.in_ok-domain.ensures.kept c.requires.env refl c.requires.context refl c.requires.binder tt c.requires.kind.has c.requires.rest c.in_ok-variable.ensures.variable in
+    let same : size (tree_of c.variable.new.bank c.args.rest) ≡ size (tree_of c.args.work.now.bank.now c.args.rest) = ap size r.rest_is in (omega (arith, one-le-size (tree_of c.args.work.now.bank.now c.args.kind)), (within, (r.variable, (r.rest, (r.env, r.context)))))
+
+pub product_type-returns-in_err-last-clause-answer : goal.product_type-returns-in_err-last-clause-answer
+product_type-returns-in_err-last-clause-answer g t c E G e k =
+    let r = ready c.args.work.now.bank.now c.sort_in.new.work.bank.now c.variable.new.bank c.in_ok-domain.ensures.grows c.in_ok-variable.ensures.grows c.args.env.now c.args.context.now c.sort_in.new.context c.in_ok-variable.variable c.args.binder None c.args.kind c.args.rest E G c.in_ok-domain.ensures.kept c.requires.env e c.requires.context k c.requires.binder tt c.requires.kind.has c.requires.rest c.in_ok-variable.ensures.variable in
+    prod_rest_stops E G (text_of c.args.work.now.bank.now c.args.binder) (tree_of c.args.work.now.bank.now c.args.kind) (tree_of c.args.work.now.bank.now c.args.rest) c.sort_inside.new.work.bank.now c.args.work.now.ticks.now.left c.sort_inside.new.work.ticks.now.left c.in_ok-domain.domain c.sort_in.new.work.ticks.now.left c.from_residual-in_err-last.result c.in_err-last.field-0.0 c.from_residual-in_err-last.ensures.1 (c.in_ok-domain.ensures.answer E G (tree_of c.args.work.now.bank.now c.args.kind) e k refl)
+    (c.in_err-last.ensures.answer E G (record { name = fresh G (text_of c.args.work.now.bank.now c.args.binder); body = None; kind = tree_of c.args.work.now.bank.now c.args.kind }) (tree_of c.args.work.now.bank.now c.args.rest) r.env_is r.context_is r.variable_is r.rest_is)
+
+pub product_type-returns-clause-answer : goal.product_type-returns-clause-answer
+product_type-returns-clause-answer g t c E G e k =
+    let r = ready c.args.work.now.bank.now c.sort_in.new.work.bank.now c.variable.new.bank c.in_ok-domain.ensures.grows c.in_ok-variable.ensures.grows c.args.env.now c.args.context.now c.sort_in.new.context c.in_ok-variable.variable c.args.binder None c.args.kind c.args.rest E G c.in_ok-domain.ensures.kept c.requires.env e c.requires.context k c.requires.binder tt c.requires.kind.has c.requires.rest c.in_ok-variable.ensures.variable in
+    prod_ends E G (text_of c.args.work.now.bank.now c.args.binder) (tree_of c.args.work.now.bank.now c.args.kind) (tree_of c.args.work.now.bank.now c.args.rest) c.make.new.self c.args.work.now.ticks.now.left c.sort_inside.new.work.ticks.now.left c.in_ok-domain.domain c.in_ok-last.last c.product_sort.result c.sort_in.new.work.ticks.now.left c.in_ok-make.field-0 (c.in_ok-domain.ensures.answer E G (tree_of c.args.work.now.bank.now c.args.kind) e k refl)
+    (c.in_ok-last.ensures.answer E G (record { name = fresh G (text_of c.args.work.now.bank.now c.args.binder); body = None; kind = tree_of c.args.work.now.bank.now c.args.kind }) (tree_of c.args.work.now.bank.now c.args.rest) r.env_is r.context_is r.variable_is r.rest_is) c.product_sort.ensures c.in_ok-make.ensures.made
+
+pub function_type-variable-requires-clause-context : goal.function_type-variable-requires-clause-context
+function_type-variable-requires-clause-context g t c = IsContext-kept c.args.work.now.bank.now c.sort_in.new.work.bank.now c.in_ok-sort_in.ensures.grows c.args.context.now c.sort_in.new.context c.in_ok-sort_in.ensures.kept c.requires.context
+
+pub function_type-type_inside-requires : goal.function_type-type_inside-requires
+function_type-type_inside-requires g t c κs within =
+    let r = ready c.args.work.now.bank.now c.sort_in.new.work.bank.now c.variable.new.bank c.in_ok-sort_in.ensures.grows c.in_ok-variable.ensures.grows c.args.env.now c.args.context.now c.sort_in.new.context c.in_ok-variable.variable c.args.binder None c.args.kind c.args.rest (env_of c.args.work.now.bank.now c.args.env.now) (context_of c.args.work.now.bank.now c.args.context.now) c.in_ok-sort_in.ensures.kept c.requires.env refl c.requires.context refl c.requires.binder tt c.requires.kind.has c.requires.rest c.in_ok-variable.ensures.variable in
+    let same : size (tree_of c.variable.new.bank c.args.rest) ≡ size (tree_of c.args.work.now.bank.now c.args.rest) = ap size r.rest_is in (omega (arith, one-le-size (tree_of c.args.work.now.bank.now c.args.kind)), (within, (r.variable, (r.rest, (r.env, r.context)))))
+
+pub function_type-function_kind-requires-clause-name : goal.function_type-function_kind-requires-clause-name
+function_type-function_kind-requires-clause-name g t c =
+    let r = ready c.args.work.now.bank.now c.sort_in.new.work.bank.now c.variable.new.bank c.in_ok-sort_in.ensures.grows c.in_ok-variable.ensures.grows c.args.env.now c.args.context.now c.sort_in.new.context c.in_ok-variable.variable c.args.binder None c.args.kind c.args.rest (env_of c.args.work.now.bank.now c.args.env.now) (context_of c.args.work.now.bank.now c.args.context.now) c.in_ok-sort_in.ensures.kept c.requires.env refl c.requires.context refl c.requires.binder tt c.requires.kind.has c.requires.rest c.in_ok-variable.ensures.variable in omega (arith, r.variable.name, c.in_ok-body.ensures.grows.names)
+
+pub function_type-returns-in_err-body-clause-answer : goal.function_type-returns-in_err-body-clause-answer
+function_type-returns-in_err-body-clause-answer g t c E G e k =
+    let r = ready c.args.work.now.bank.now c.sort_in.new.work.bank.now c.variable.new.bank c.in_ok-sort_in.ensures.grows c.in_ok-variable.ensures.grows c.args.env.now c.args.context.now c.sort_in.new.context c.in_ok-variable.variable c.args.binder None c.args.kind c.args.rest E G c.in_ok-sort_in.ensures.kept c.requires.env e c.requires.context k c.requires.binder tt c.requires.kind.has c.requires.rest c.in_ok-variable.ensures.variable in
+    lam_body_stops E G (text_of c.args.work.now.bank.now c.args.binder) (tree_of c.args.work.now.bank.now c.args.kind) (tree_of c.args.work.now.bank.now c.args.rest) c.type_inside.new.work.bank.now c.args.work.now.ticks.now.left c.type_inside.new.work.ticks.now.left c.in_ok-sort_in.field-0 c.sort_in.new.work.ticks.now.left c.from_residual-in_err-body.result c.in_err-body.field-0.0 c.from_residual-in_err-body.ensures.1 (c.in_ok-sort_in.ensures.answer E G (tree_of c.args.work.now.bank.now c.args.kind) e k refl)
+    (c.in_err-body.ensures.answer E G (record { name = fresh G (text_of c.args.work.now.bank.now c.args.binder); body = None; kind = tree_of c.args.work.now.bank.now c.args.kind }) (tree_of c.args.work.now.bank.now c.args.rest) r.env_is r.context_is r.variable_is r.rest_is)
+
+pub function_type-returns-clause-answer : goal.function_type-returns-clause-answer
+function_type-returns-clause-answer g t c E G e k =
+    let r = ready c.args.work.now.bank.now c.sort_in.new.work.bank.now c.variable.new.bank c.in_ok-sort_in.ensures.grows c.in_ok-variable.ensures.grows c.args.env.now c.args.context.now c.sort_in.new.context c.in_ok-variable.variable c.args.binder None c.args.kind c.args.rest E G c.in_ok-sort_in.ensures.kept c.requires.env e c.requires.context k c.requires.binder tt c.requires.kind.has c.requires.rest c.in_ok-variable.ensures.variable in
+    let body = (c.in_ok-body.ensures.answer E G (record { name = fresh G (text_of c.args.work.now.bank.now c.args.binder); body = None; kind = tree_of c.args.work.now.bank.now c.args.kind }) (tree_of c.args.work.now.bank.now c.args.rest) r.env_is r.context_is r.variable_is r.rest_is) in
+    let whole : Grows c.args.work.now.bank.now c.type_inside.new.work.bank.now = (Grows-trans c.args.work.now.bank.now c.variable.new.bank c.type_inside.new.work.bank.now (Grows-trans c.args.work.now.bank.now c.sort_in.new.work.bank.now c.variable.new.bank c.in_ok-sort_in.ensures.grows c.in_ok-variable.ensures.grows) c.in_ok-body.ensures.grows) in
+    lam_ends E G (text_of c.args.work.now.bank.now c.args.binder) (tree_of c.args.work.now.bank.now c.args.kind) (tree_of c.args.work.now.bank.now c.args.rest) c.function_kind.new.bank c.args.work.now.ticks.now.left c.type_inside.new.work.ticks.now.left c.in_ok-sort_in.field-0 (tree_of c.type_inside.new.work.bank.now c.in_ok-body.body) c.sort_in.new.work.ticks.now.left c.function_kind.result c.requires.kind.within body.0.within (c.in_ok-sort_in.ensures.answer E G (tree_of c.args.work.now.bank.now c.args.kind) e k refl) body.1
+    (c.function_kind.ensures.answer (text_of c.args.work.now.bank.now c.args.binder) (fresh G (text_of c.args.work.now.bank.now c.args.binder)) (tree_of c.args.work.now.bank.now c.args.kind) (tree_of c.type_inside.new.work.bank.now c.in_ok-body.body) (whole.text c.args.binder c.requires.binder) (c.in_ok-body.ensures.grows.text c.in_ok-variable.variable.name r.variable.name ∙ ap (λ z. z.name) r.variable_is) (whole.tree c.args.kind c.requires.kind.has) refl)
+
+pub definition_type-variable-requires-clause-context : goal.definition_type-variable-requires-clause-context
+definition_type-variable-requires-clause-context g t c = IsContext-kept c.args.work.now.bank.now c.check_in.new.work.bank.now (Grows-trans c.args.work.now.bank.now c.sort_in.new.work.bank.now c.check_in.new.work.bank.now c.in_ok-sort_in.ensures.grows c.in_ok-check_in.ensures.grows) c.args.context.now c.check_in.new.context (c.in_ok-check_in.ensures.kept ∙ c.in_ok-sort_in.ensures.kept) c.requires.context
+
+pub definition_type-type_inside-requires : goal.definition_type-type_inside-requires
+definition_type-type_inside-requires g t c κs within =
+    let r = ready c.args.work.now.bank.now c.check_in.new.work.bank.now c.variable.new.bank (Grows-trans c.args.work.now.bank.now c.sort_in.new.work.bank.now c.check_in.new.work.bank.now c.in_ok-sort_in.ensures.grows c.in_ok-check_in.ensures.grows) c.in_ok-variable.ensures.grows c.args.env.now c.args.context.now c.check_in.new.context c.in_ok-variable.variable c.args.binder (Some c.args.value) c.args.kind c.args.rest (env_of c.args.work.now.bank.now c.args.env.now) (context_of c.args.work.now.bank.now c.args.context.now) (c.in_ok-check_in.ensures.kept ∙ c.in_ok-sort_in.ensures.kept) c.requires.env refl c.requires.context refl c.requires.binder c.requires.value c.requires.kind.has c.requires.rest c.in_ok-variable.ensures.variable in
+    let same : size (tree_of c.variable.new.bank c.args.rest) ≡ size (tree_of c.args.work.now.bank.now c.args.rest) = ap size r.rest_is in (omega (arith, one-le-size (tree_of c.args.work.now.bank.now c.args.kind), one-le-size (tree_of c.args.work.now.bank.now c.args.value)), (within, (r.variable, (r.rest, (r.env, r.context)))))
 
 pub definition_type-definition_kind-requires-clause-name : goal.definition_type-definition_kind-requires-clause-name
 definition_type-definition_kind-requires-clause-name g t c =
-    omega (arith, (let_inside c.under.new.bank c.in_ok-inside.inside (context_of c.args.work.now.bank.now c.args.context.now) (text_of c.args.work.now.bank.now c.args.binder) (tree_of c.args.work.now.bank.now c.args.kind) (tree_of c.args.work.now.bank.now c.args.rest) (tree_of c.check_in.new.work.bank.now c.args.value) (tree_of c.args.work.now.bank.now c.args.value) (tree_at c.args.work.now.bank.now c.check_in.new.work.bank.now (Grows-trans c.args.work.now.bank.now c.sort_in.new.work.bank.now c.check_in.new.work.bank.now c.in_ok-sort_in.ensures.grows c.in_ok-check_in.ensures.grows) c.args.value (tree_of c.args.work.now.bank.now c.args.value) c.requires.value.has refl) (c.in_ok-inside.ensures.inside (context_of c.args.work.now.bank.now c.args.context.now) (text_of c.args.work.now.bank.now c.args.binder) (tree_of c.args.work.now.bank.now c.args.kind) (tree_of c.args.work.now.bank.now c.args.rest) (context_at c.args.work.now.bank.now c.check_in.new.work.bank.now (Grows-trans c.args.work.now.bank.now c.sort_in.new.work.bank.now c.check_in.new.work.bank.now c.in_ok-sort_in.ensures.grows c.in_ok-check_in.ensures.grows) c.args.context.now (context_of c.args.work.now.bank.now c.args.context.now) c.requires.context refl) (text_at c.args.work.now.bank.now c.check_in.new.work.bank.now (Grows-trans c.args.work.now.bank.now c.sort_in.new.work.bank.now c.check_in.new.work.bank.now c.in_ok-sort_in.ensures.grows c.in_ok-check_in.ensures.grows) c.args.binder (text_of c.args.work.now.bank.now c.args.binder) c.requires.binder refl) (tree_at c.args.work.now.bank.now c.check_in.new.work.bank.now (Grows-trans c.args.work.now.bank.now c.sort_in.new.work.bank.now c.check_in.new.work.bank.now c.in_ok-sort_in.ensures.grows c.in_ok-check_in.ensures.grows) c.args.kind (tree_of c.args.work.now.bank.now c.args.kind) c.requires.kind.has refl) (tree_at c.args.work.now.bank.now c.check_in.new.work.bank.now (Grows-trans c.args.work.now.bank.now c.sort_in.new.work.bank.now c.check_in.new.work.bank.now c.in_ok-sort_in.ensures.grows c.in_ok-check_in.ensures.grows) c.args.rest (tree_of c.args.work.now.bank.now c.args.rest) c.requires.rest.has refl))).name.has, c.in_ok-body.ensures.grows.names)
+    let r = ready c.args.work.now.bank.now c.check_in.new.work.bank.now c.variable.new.bank (Grows-trans c.args.work.now.bank.now c.sort_in.new.work.bank.now c.check_in.new.work.bank.now c.in_ok-sort_in.ensures.grows c.in_ok-check_in.ensures.grows) c.in_ok-variable.ensures.grows c.args.env.now c.args.context.now c.check_in.new.context c.in_ok-variable.variable c.args.binder (Some c.args.value) c.args.kind c.args.rest (env_of c.args.work.now.bank.now c.args.env.now) (context_of c.args.work.now.bank.now c.args.context.now) (c.in_ok-check_in.ensures.kept ∙ c.in_ok-sort_in.ensures.kept) c.requires.env refl c.requires.context refl c.requires.binder c.requires.value c.requires.kind.has c.requires.rest c.in_ok-variable.ensures.variable in omega (arith, r.variable.name, c.in_ok-body.ensures.grows.names)
+
+pub definition_type-returns-in_err-body-clause-answer : goal.definition_type-returns-in_err-body-clause-answer
+definition_type-returns-in_err-body-clause-answer g t c E G e k =
+    let r = ready c.args.work.now.bank.now c.check_in.new.work.bank.now c.variable.new.bank (Grows-trans c.args.work.now.bank.now c.sort_in.new.work.bank.now c.check_in.new.work.bank.now c.in_ok-sort_in.ensures.grows c.in_ok-check_in.ensures.grows) c.in_ok-variable.ensures.grows c.args.env.now c.args.context.now c.check_in.new.context c.in_ok-variable.variable c.args.binder (Some c.args.value) c.args.kind c.args.rest E G (c.in_ok-check_in.ensures.kept ∙ c.in_ok-sort_in.ensures.kept) c.requires.env e c.requires.context k c.requires.binder c.requires.value c.requires.kind.has c.requires.rest c.in_ok-variable.ensures.variable in
+    let_rest_stops E G (text_of c.args.work.now.bank.now c.args.binder) (tree_of c.args.work.now.bank.now c.args.value) (tree_of c.args.work.now.bank.now c.args.kind) (tree_of c.args.work.now.bank.now c.args.rest) c.type_inside.new.work.bank.now c.args.work.now.ticks.now.left c.type_inside.new.work.ticks.now.left c.in_ok-sort_in.field-0 c.sort_in.new.work.ticks.now.left c.check_in.new.work.ticks.now.left c.from_residual-in_err-body.result c.in_err-body.field-0.0 c.from_residual-in_err-body.ensures.1 (c.in_ok-sort_in.ensures.answer E G (tree_of c.args.work.now.bank.now c.args.kind) e k refl)
+    (c.in_ok-check_in.ensures.answer E G (tree_of c.args.work.now.bank.now c.args.value) (tree_of c.args.work.now.bank.now c.args.kind) (env_at c.args.work.now.bank.now c.sort_in.new.work.bank.now c.in_ok-sort_in.ensures.grows c.args.env.now E c.requires.env e) (context_kept c.args.work.now.bank.now c.sort_in.new.work.bank.now c.in_ok-sort_in.ensures.grows c.args.context.now c.sort_in.new.context G c.in_ok-sort_in.ensures.kept c.requires.context k) (c.in_ok-sort_in.ensures.grows.tree c.args.value c.requires.value.has) (c.in_ok-sort_in.ensures.grows.tree c.args.kind c.requires.kind.has))
+    (c.in_err-body.ensures.answer E G (record { name = fresh G (text_of c.args.work.now.bank.now c.args.binder); body = Some (tree_of c.args.work.now.bank.now c.args.value); kind = tree_of c.args.work.now.bank.now c.args.kind }) (tree_of c.args.work.now.bank.now c.args.rest) r.env_is r.context_is r.variable_is r.rest_is)
 
 pub definition_type-returns-clause-answer : goal.definition_type-returns-clause-answer
 definition_type-returns-clause-answer g t c E G e k =
-    let_ends E G (text_of c.args.work.now.bank.now c.args.binder) (tree_of c.args.work.now.bank.now c.args.value) (tree_of c.args.work.now.bank.now c.args.kind) (tree_of c.args.work.now.bank.now c.args.rest) c.definition_kind.new.bank c.args.work.now.ticks.now.left c.type_of.new.work.ticks.now.left c.in_ok-sort_in.field-0 (tree_of c.type_of.new.work.bank.now c.in_ok-body.body) c.sort_in.new.work.ticks.now.left c.check_in.new.work.ticks.now.left c.definition_kind.result c.requires.value.within (c.in_ok-body.ensures.answer E _ _ (env_at c.args.work.now.bank.now c.under.new.bank (Grows-trans c.args.work.now.bank.now c.check_in.new.work.bank.now c.under.new.bank (Grows-trans c.args.work.now.bank.now c.sort_in.new.work.bank.now c.check_in.new.work.bank.now c.in_ok-sort_in.ensures.grows c.in_ok-check_in.ensures.grows) c.in_ok-inside.ensures.grows) c.args.env.now E c.requires.env e) (let_inside c.under.new.bank c.in_ok-inside.inside G (text_of c.args.work.now.bank.now c.args.binder) (tree_of c.args.work.now.bank.now c.args.kind) (tree_of c.args.work.now.bank.now c.args.rest) (tree_of c.check_in.new.work.bank.now c.args.value) (tree_of c.args.work.now.bank.now c.args.value) (tree_at c.args.work.now.bank.now c.check_in.new.work.bank.now (Grows-trans c.args.work.now.bank.now c.sort_in.new.work.bank.now c.check_in.new.work.bank.now c.in_ok-sort_in.ensures.grows c.in_ok-check_in.ensures.grows) c.args.value (tree_of c.args.work.now.bank.now c.args.value) c.requires.value.has refl) (c.in_ok-inside.ensures.inside G (text_of c.args.work.now.bank.now c.args.binder) (tree_of c.args.work.now.bank.now c.args.kind) (tree_of c.args.work.now.bank.now c.args.rest) (context_at c.args.work.now.bank.now c.check_in.new.work.bank.now (Grows-trans c.args.work.now.bank.now c.sort_in.new.work.bank.now c.check_in.new.work.bank.now c.in_ok-sort_in.ensures.grows c.in_ok-check_in.ensures.grows) c.args.context.now G c.requires.context k) (text_at c.args.work.now.bank.now c.check_in.new.work.bank.now (Grows-trans c.args.work.now.bank.now c.sort_in.new.work.bank.now c.check_in.new.work.bank.now c.in_ok-sort_in.ensures.grows c.in_ok-check_in.ensures.grows) c.args.binder (text_of c.args.work.now.bank.now c.args.binder) c.requires.binder refl) (tree_at c.args.work.now.bank.now c.check_in.new.work.bank.now (Grows-trans c.args.work.now.bank.now c.sort_in.new.work.bank.now c.check_in.new.work.bank.now c.in_ok-sort_in.ensures.grows c.in_ok-check_in.ensures.grows) c.args.kind (tree_of c.args.work.now.bank.now c.args.kind) c.requires.kind.has refl) (tree_at c.args.work.now.bank.now c.check_in.new.work.bank.now (Grows-trans c.args.work.now.bank.now c.sort_in.new.work.bank.now c.check_in.new.work.bank.now c.in_ok-sort_in.ensures.grows c.in_ok-check_in.ensures.grows) c.args.rest (tree_of c.args.work.now.bank.now c.args.rest) c.requires.rest.has refl))).is (let_inside c.under.new.bank c.in_ok-inside.inside G (text_of c.args.work.now.bank.now c.args.binder) (tree_of c.args.work.now.bank.now c.args.kind) (tree_of c.args.work.now.bank.now c.args.rest) (tree_of c.check_in.new.work.bank.now c.args.value) (tree_of c.args.work.now.bank.now c.args.value) (tree_at c.args.work.now.bank.now c.check_in.new.work.bank.now (Grows-trans c.args.work.now.bank.now c.sort_in.new.work.bank.now c.check_in.new.work.bank.now c.in_ok-sort_in.ensures.grows c.in_ok-check_in.ensures.grows) c.args.value (tree_of c.args.work.now.bank.now c.args.value) c.requires.value.has refl) (c.in_ok-inside.ensures.inside G (text_of c.args.work.now.bank.now c.args.binder) (tree_of c.args.work.now.bank.now c.args.kind) (tree_of c.args.work.now.bank.now c.args.rest) (context_at c.args.work.now.bank.now c.check_in.new.work.bank.now (Grows-trans c.args.work.now.bank.now c.sort_in.new.work.bank.now c.check_in.new.work.bank.now c.in_ok-sort_in.ensures.grows c.in_ok-check_in.ensures.grows) c.args.context.now G c.requires.context k) (text_at c.args.work.now.bank.now c.check_in.new.work.bank.now (Grows-trans c.args.work.now.bank.now c.sort_in.new.work.bank.now c.check_in.new.work.bank.now c.in_ok-sort_in.ensures.grows c.in_ok-check_in.ensures.grows) c.args.binder (text_of c.args.work.now.bank.now c.args.binder) c.requires.binder refl) (tree_at c.args.work.now.bank.now c.check_in.new.work.bank.now (Grows-trans c.args.work.now.bank.now c.sort_in.new.work.bank.now c.check_in.new.work.bank.now c.in_ok-sort_in.ensures.grows c.in_ok-check_in.ensures.grows) c.args.kind (tree_of c.args.work.now.bank.now c.args.kind) c.requires.kind.has refl) (tree_at c.args.work.now.bank.now c.check_in.new.work.bank.now (Grows-trans c.args.work.now.bank.now c.sort_in.new.work.bank.now c.check_in.new.work.bank.now c.in_ok-sort_in.ensures.grows c.in_ok-check_in.ensures.grows) c.args.rest (tree_of c.args.work.now.bank.now c.args.rest) c.requires.rest.has refl))).term.is).0.within (c.in_ok-sort_in.ensures.answer E G (tree_of c.args.work.now.bank.now c.args.kind) e k refl)
-    (c.in_ok-check_in.ensures.answer E G (tree_of c.args.work.now.bank.now c.args.value) (tree_of c.args.work.now.bank.now c.args.kind) (env_at c.args.work.now.bank.now c.sort_in.new.work.bank.now c.in_ok-sort_in.ensures.grows c.args.env.now E c.requires.env e) (context_at c.args.work.now.bank.now c.sort_in.new.work.bank.now c.in_ok-sort_in.ensures.grows c.args.context.now G c.requires.context k) (tree_at c.args.work.now.bank.now c.sort_in.new.work.bank.now c.in_ok-sort_in.ensures.grows c.args.value (tree_of c.args.work.now.bank.now c.args.value) c.requires.value.has refl) (tree_at c.args.work.now.bank.now c.sort_in.new.work.bank.now c.in_ok-sort_in.ensures.grows c.args.kind (tree_of c.args.work.now.bank.now c.args.kind) c.requires.kind.has refl))
-    (c.in_ok-body.ensures.answer E _ _ (env_at c.args.work.now.bank.now c.under.new.bank (Grows-trans c.args.work.now.bank.now c.check_in.new.work.bank.now c.under.new.bank (Grows-trans c.args.work.now.bank.now c.sort_in.new.work.bank.now c.check_in.new.work.bank.now c.in_ok-sort_in.ensures.grows c.in_ok-check_in.ensures.grows) c.in_ok-inside.ensures.grows) c.args.env.now E c.requires.env e) (let_inside c.under.new.bank c.in_ok-inside.inside G (text_of c.args.work.now.bank.now c.args.binder) (tree_of c.args.work.now.bank.now c.args.kind) (tree_of c.args.work.now.bank.now c.args.rest) (tree_of c.check_in.new.work.bank.now c.args.value) (tree_of c.args.work.now.bank.now c.args.value) (tree_at c.args.work.now.bank.now c.check_in.new.work.bank.now (Grows-trans c.args.work.now.bank.now c.sort_in.new.work.bank.now c.check_in.new.work.bank.now c.in_ok-sort_in.ensures.grows c.in_ok-check_in.ensures.grows) c.args.value (tree_of c.args.work.now.bank.now c.args.value) c.requires.value.has refl) (c.in_ok-inside.ensures.inside G (text_of c.args.work.now.bank.now c.args.binder) (tree_of c.args.work.now.bank.now c.args.kind) (tree_of c.args.work.now.bank.now c.args.rest) (context_at c.args.work.now.bank.now c.check_in.new.work.bank.now (Grows-trans c.args.work.now.bank.now c.sort_in.new.work.bank.now c.check_in.new.work.bank.now c.in_ok-sort_in.ensures.grows c.in_ok-check_in.ensures.grows) c.args.context.now G c.requires.context k) (text_at c.args.work.now.bank.now c.check_in.new.work.bank.now (Grows-trans c.args.work.now.bank.now c.sort_in.new.work.bank.now c.check_in.new.work.bank.now c.in_ok-sort_in.ensures.grows c.in_ok-check_in.ensures.grows) c.args.binder (text_of c.args.work.now.bank.now c.args.binder) c.requires.binder refl) (tree_at c.args.work.now.bank.now c.check_in.new.work.bank.now (Grows-trans c.args.work.now.bank.now c.sort_in.new.work.bank.now c.check_in.new.work.bank.now c.in_ok-sort_in.ensures.grows c.in_ok-check_in.ensures.grows) c.args.kind (tree_of c.args.work.now.bank.now c.args.kind) c.requires.kind.has refl) (tree_at c.args.work.now.bank.now c.check_in.new.work.bank.now (Grows-trans c.args.work.now.bank.now c.sort_in.new.work.bank.now c.check_in.new.work.bank.now c.in_ok-sort_in.ensures.grows c.in_ok-check_in.ensures.grows) c.args.rest (tree_of c.args.work.now.bank.now c.args.rest) c.requires.rest.has refl))).is (let_inside c.under.new.bank c.in_ok-inside.inside G (text_of c.args.work.now.bank.now c.args.binder) (tree_of c.args.work.now.bank.now c.args.kind) (tree_of c.args.work.now.bank.now c.args.rest) (tree_of c.check_in.new.work.bank.now c.args.value) (tree_of c.args.work.now.bank.now c.args.value) (tree_at c.args.work.now.bank.now c.check_in.new.work.bank.now (Grows-trans c.args.work.now.bank.now c.sort_in.new.work.bank.now c.check_in.new.work.bank.now c.in_ok-sort_in.ensures.grows c.in_ok-check_in.ensures.grows) c.args.value (tree_of c.args.work.now.bank.now c.args.value) c.requires.value.has refl) (c.in_ok-inside.ensures.inside G (text_of c.args.work.now.bank.now c.args.binder) (tree_of c.args.work.now.bank.now c.args.kind) (tree_of c.args.work.now.bank.now c.args.rest) (context_at c.args.work.now.bank.now c.check_in.new.work.bank.now (Grows-trans c.args.work.now.bank.now c.sort_in.new.work.bank.now c.check_in.new.work.bank.now c.in_ok-sort_in.ensures.grows c.in_ok-check_in.ensures.grows) c.args.context.now G c.requires.context k) (text_at c.args.work.now.bank.now c.check_in.new.work.bank.now (Grows-trans c.args.work.now.bank.now c.sort_in.new.work.bank.now c.check_in.new.work.bank.now c.in_ok-sort_in.ensures.grows c.in_ok-check_in.ensures.grows) c.args.binder (text_of c.args.work.now.bank.now c.args.binder) c.requires.binder refl) (tree_at c.args.work.now.bank.now c.check_in.new.work.bank.now (Grows-trans c.args.work.now.bank.now c.sort_in.new.work.bank.now c.check_in.new.work.bank.now c.in_ok-sort_in.ensures.grows c.in_ok-check_in.ensures.grows) c.args.kind (tree_of c.args.work.now.bank.now c.args.kind) c.requires.kind.has refl) (tree_at c.args.work.now.bank.now c.check_in.new.work.bank.now (Grows-trans c.args.work.now.bank.now c.sort_in.new.work.bank.now c.check_in.new.work.bank.now c.in_ok-sort_in.ensures.grows c.in_ok-check_in.ensures.grows) c.args.rest (tree_of c.args.work.now.bank.now c.args.rest) c.requires.rest.has refl))).term.is).1
-    (c.definition_kind.ensures.answer (tree_of c.args.work.now.bank.now c.args.value) (tree_of c.type_of.new.work.bank.now c.in_ok-body.body) (fresh G (text_of c.args.work.now.bank.now c.args.binder)) (tree_at c.args.work.now.bank.now c.type_of.new.work.bank.now (Grows-trans c.args.work.now.bank.now c.under.new.bank c.type_of.new.work.bank.now (Grows-trans c.args.work.now.bank.now c.check_in.new.work.bank.now c.under.new.bank (Grows-trans c.args.work.now.bank.now c.sort_in.new.work.bank.now c.check_in.new.work.bank.now c.in_ok-sort_in.ensures.grows c.in_ok-check_in.ensures.grows) c.in_ok-inside.ensures.grows) c.in_ok-body.ensures.grows) c.args.value (tree_of c.args.work.now.bank.now c.args.value) c.requires.value.has refl) (c.in_ok-body.ensures.grows.text c.in_ok-inside.inside.name (let_inside c.under.new.bank c.in_ok-inside.inside G (text_of c.args.work.now.bank.now c.args.binder) (tree_of c.args.work.now.bank.now c.args.kind) (tree_of c.args.work.now.bank.now c.args.rest) (tree_of c.check_in.new.work.bank.now c.args.value) (tree_of c.args.work.now.bank.now c.args.value) (tree_at c.args.work.now.bank.now c.check_in.new.work.bank.now (Grows-trans c.args.work.now.bank.now c.sort_in.new.work.bank.now c.check_in.new.work.bank.now c.in_ok-sort_in.ensures.grows c.in_ok-check_in.ensures.grows) c.args.value (tree_of c.args.work.now.bank.now c.args.value) c.requires.value.has refl) (c.in_ok-inside.ensures.inside G (text_of c.args.work.now.bank.now c.args.binder) (tree_of c.args.work.now.bank.now c.args.kind) (tree_of c.args.work.now.bank.now c.args.rest) (context_at c.args.work.now.bank.now c.check_in.new.work.bank.now (Grows-trans c.args.work.now.bank.now c.sort_in.new.work.bank.now c.check_in.new.work.bank.now c.in_ok-sort_in.ensures.grows c.in_ok-check_in.ensures.grows) c.args.context.now G c.requires.context k) (text_at c.args.work.now.bank.now c.check_in.new.work.bank.now (Grows-trans c.args.work.now.bank.now c.sort_in.new.work.bank.now c.check_in.new.work.bank.now c.in_ok-sort_in.ensures.grows c.in_ok-check_in.ensures.grows) c.args.binder (text_of c.args.work.now.bank.now c.args.binder) c.requires.binder refl) (tree_at c.args.work.now.bank.now c.check_in.new.work.bank.now (Grows-trans c.args.work.now.bank.now c.sort_in.new.work.bank.now c.check_in.new.work.bank.now c.in_ok-sort_in.ensures.grows c.in_ok-check_in.ensures.grows) c.args.kind (tree_of c.args.work.now.bank.now c.args.kind) c.requires.kind.has refl) (tree_at c.args.work.now.bank.now c.check_in.new.work.bank.now (Grows-trans c.args.work.now.bank.now c.sort_in.new.work.bank.now c.check_in.new.work.bank.now c.in_ok-sort_in.ensures.grows c.in_ok-check_in.ensures.grows) c.args.rest (tree_of c.args.work.now.bank.now c.args.rest) c.requires.rest.has refl))).name.has ∙ (let_inside c.under.new.bank c.in_ok-inside.inside G (text_of c.args.work.now.bank.now c.args.binder) (tree_of c.args.work.now.bank.now c.args.kind) (tree_of c.args.work.now.bank.now c.args.rest) (tree_of c.check_in.new.work.bank.now c.args.value) (tree_of c.args.work.now.bank.now c.args.value) (tree_at c.args.work.now.bank.now c.check_in.new.work.bank.now (Grows-trans c.args.work.now.bank.now c.sort_in.new.work.bank.now c.check_in.new.work.bank.now c.in_ok-sort_in.ensures.grows c.in_ok-check_in.ensures.grows) c.args.value (tree_of c.args.work.now.bank.now c.args.value) c.requires.value.has refl) (c.in_ok-inside.ensures.inside G (text_of c.args.work.now.bank.now c.args.binder) (tree_of c.args.work.now.bank.now c.args.kind) (tree_of c.args.work.now.bank.now c.args.rest) (context_at c.args.work.now.bank.now c.check_in.new.work.bank.now (Grows-trans c.args.work.now.bank.now c.sort_in.new.work.bank.now c.check_in.new.work.bank.now c.in_ok-sort_in.ensures.grows c.in_ok-check_in.ensures.grows) c.args.context.now G c.requires.context k) (text_at c.args.work.now.bank.now c.check_in.new.work.bank.now (Grows-trans c.args.work.now.bank.now c.sort_in.new.work.bank.now c.check_in.new.work.bank.now c.in_ok-sort_in.ensures.grows c.in_ok-check_in.ensures.grows) c.args.binder (text_of c.args.work.now.bank.now c.args.binder) c.requires.binder refl) (tree_at c.args.work.now.bank.now c.check_in.new.work.bank.now (Grows-trans c.args.work.now.bank.now c.sort_in.new.work.bank.now c.check_in.new.work.bank.now c.in_ok-sort_in.ensures.grows c.in_ok-check_in.ensures.grows) c.args.kind (tree_of c.args.work.now.bank.now c.args.kind) c.requires.kind.has refl) (tree_at c.args.work.now.bank.now c.check_in.new.work.bank.now (Grows-trans c.args.work.now.bank.now c.sort_in.new.work.bank.now c.check_in.new.work.bank.now c.in_ok-sort_in.ensures.grows c.in_ok-check_in.ensures.grows) c.args.rest (tree_of c.args.work.now.bank.now c.args.rest) c.requires.rest.has refl))).name.is) refl)
+    let r = ready c.args.work.now.bank.now c.check_in.new.work.bank.now c.variable.new.bank (Grows-trans c.args.work.now.bank.now c.sort_in.new.work.bank.now c.check_in.new.work.bank.now c.in_ok-sort_in.ensures.grows c.in_ok-check_in.ensures.grows) c.in_ok-variable.ensures.grows c.args.env.now c.args.context.now c.check_in.new.context c.in_ok-variable.variable c.args.binder (Some c.args.value) c.args.kind c.args.rest E G (c.in_ok-check_in.ensures.kept ∙ c.in_ok-sort_in.ensures.kept) c.requires.env e c.requires.context k c.requires.binder c.requires.value c.requires.kind.has c.requires.rest c.in_ok-variable.ensures.variable in
+    let body = (c.in_ok-body.ensures.answer E G (record { name = fresh G (text_of c.args.work.now.bank.now c.args.binder); body = Some (tree_of c.args.work.now.bank.now c.args.value); kind = tree_of c.args.work.now.bank.now c.args.kind }) (tree_of c.args.work.now.bank.now c.args.rest) r.env_is r.context_is r.variable_is r.rest_is) in
+    let whole : Grows c.args.work.now.bank.now c.type_inside.new.work.bank.now = (Grows-trans c.args.work.now.bank.now c.variable.new.bank c.type_inside.new.work.bank.now (Grows-trans c.args.work.now.bank.now c.check_in.new.work.bank.now c.variable.new.bank (Grows-trans c.args.work.now.bank.now c.sort_in.new.work.bank.now c.check_in.new.work.bank.now c.in_ok-sort_in.ensures.grows c.in_ok-check_in.ensures.grows) c.in_ok-variable.ensures.grows) c.in_ok-body.ensures.grows) in
+    let_ends E G (text_of c.args.work.now.bank.now c.args.binder) (tree_of c.args.work.now.bank.now c.args.value) (tree_of c.args.work.now.bank.now c.args.kind) (tree_of c.args.work.now.bank.now c.args.rest) c.definition_kind.new.bank c.args.work.now.ticks.now.left c.type_inside.new.work.ticks.now.left c.in_ok-sort_in.field-0 (tree_of c.type_inside.new.work.bank.now c.in_ok-body.body) c.sort_in.new.work.ticks.now.left c.check_in.new.work.ticks.now.left c.definition_kind.result c.requires.value.within body.0.within (c.in_ok-sort_in.ensures.answer E G (tree_of c.args.work.now.bank.now c.args.kind) e k refl)
+    (c.in_ok-check_in.ensures.answer E G (tree_of c.args.work.now.bank.now c.args.value) (tree_of c.args.work.now.bank.now c.args.kind) (env_at c.args.work.now.bank.now c.sort_in.new.work.bank.now c.in_ok-sort_in.ensures.grows c.args.env.now E c.requires.env e) (context_kept c.args.work.now.bank.now c.sort_in.new.work.bank.now c.in_ok-sort_in.ensures.grows c.args.context.now c.sort_in.new.context G c.in_ok-sort_in.ensures.kept c.requires.context k) (c.in_ok-sort_in.ensures.grows.tree c.args.value c.requires.value.has) (c.in_ok-sort_in.ensures.grows.tree c.args.kind c.requires.kind.has)) body.1
+    (c.definition_kind.ensures.answer (tree_of c.args.work.now.bank.now c.args.value) (tree_of c.type_inside.new.work.bank.now c.in_ok-body.body) (fresh G (text_of c.args.work.now.bank.now c.args.binder)) (whole.tree c.args.value c.requires.value.has) (c.in_ok-body.ensures.grows.text c.in_ok-variable.variable.name r.variable.name ∙ ap (λ z. z.name) r.variable_is) refl)

@@ -29,3 +29,9 @@ decreases-definition_type g l = 6 * (size (tree_of l.work.now.bank.now l.value) 
 
 abbrev pub decreases-application_type : goal.decreases-application_type
 decreases-application_type g l = 6 * (size (tree_of l.work.now.bank.now l.function) + size (tree_of l.work.now.bank.now l.argument)) + 5
+
+abbrev pub decreases-type_inside : goal.decreases-type_inside
+decreases-type_inside g l = 6 * size (tree_of l.work.now.bank.now l.rest) + 3
+
+abbrev pub decreases-sort_inside : goal.decreases-sort_inside
+decreases-sort_inside g l = 6 * size (tree_of l.work.now.bank.now l.rest) + 3
