@@ -11,8 +11,7 @@ use Rattle.lq_terms.specs.Contexts.{context_of}
 use Rattle.lq_terms.specs.Telling.{Tells, values_in}
 use Rattle.lq_calculus.specs.Declarations.{Env as Environment, rules_of}
 use Rattle.lq_env.specs.declared.environment.Declared.{Declared}
-use Rattle.lq_env.specs.Environments.{IsEnv, IsOwn, env_of, telling}
-use Rattle.lq_env.proofs.Telling.{tells}
+use Rattle.lq_env.specs.Environments.{IsOwn, env_of, telling}
 use Rattle.lq_kernel.proofs.ReadingSame.{reads_same, context_reads_same, rules_read_same}
 
 -- no name of the bank has the text of another
@@ -23,8 +22,8 @@ pub own : (bank : Terms) (x : NameId) → Apart bank → HasName bank x → IsOw
 own bank x apart has = record { has = has; apart = λ y h e. apart y x h has e }
 
 -- the environment tells the rules of the definition
-pub env_tells : (bank : Terms) (ds : List (NameId × Declared)) (E : Environment) → Apart bank → IsEnv bank ds → env_of bank ds ≡ E → Tells bank (telling ds) (rules_of E)
-env_tells bank ds E apart h e = subst (λ z. Tells bank (telling ds) (rules_of z)) e (tells bank ds (λ x has. own bank x apart has) h)
+pub env_tells : (bank : Terms) (ds : List (NameId × Declared)) (E : Environment) → Tells bank (telling ds) (rules_of (env_of bank ds)) → env_of bank ds ≡ E → Tells bank (telling ds) (rules_of E)
+env_tells bank ds E h e = subst (λ z. Tells bank (telling ds) (rules_of z)) e h
 
 -- no variable has a value
 abbrev pub nothing : ℕ → Option (List Hypothesis × TermId)

@@ -54,6 +54,7 @@ pub(crate) fn head_form<L: Ledger>(
     ensures counted { steps.new + work.old.ticks.now.spent ≡ steps.old + work.new.ticks.now.spent }
 {
     work.bank.names_apart();
+    env.computes();
     match whnf(work, env, &NoBodies, context, term, steps) {
         Ok(form) => Ok(form),
         Err(fault) => Err(KernelFault::from(fault)),
@@ -82,6 +83,7 @@ fn compares<L: Ledger>(
     ensures counted { steps.new + work.old.ticks.now.spent ≡ steps.old + work.new.ticks.now.spent }
 {
     work.bank.names_apart();
+    env.computes();
     match conv(work, env, &NoBodies, context, found, wanted, steps) {
         Ok(same) => Ok(same),
         Err(fault) => Err(KernelFault::from(fault)),
