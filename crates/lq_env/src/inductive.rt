@@ -51,6 +51,7 @@ fn eliminator_name(bank: &mut Bank<'_>, family: NameId, sort: Sort) -> Result<Na
     requires family { HasName bank.old family }
     requires sort { IsSort sort }
     ensures named { IfOk result (λ x. IsName bank.new x (eliminator_name (text_of bank.old family) sort)) }
+    ensures nodes { bank.new.nodes ≡ bank.old.nodes }
     ensures grows { Grows bank.old bank.new }
 {
     let mut text = String::from_str(bank.allocator(), bank.text(family))?;
@@ -62,6 +63,7 @@ fn eliminator_name(bank: &mut Bank<'_>, family: NameId, sort: Sort) -> Result<Na
 fn eliminator_names(bank: &mut Bank<'_>, family: NameId) -> Result<Vec<(NameId, Sort)>, NoMemory>
     requires { HasName bank.old family }
     ensures named { IfOk result (λ es. AreEliminatorNames bank.new (text_of bank.old family) es.items) }
+    ensures nodes { bank.new.nodes ≡ bank.old.nodes }
     ensures grows { Grows bank.old bank.new }
 {
     let mut names = Vec::new(bank.allocator());
@@ -131,6 +133,7 @@ pub fn refuse_taken_names(bank: &mut Bank<'_>, env: &Env, family: &Family) -> Re
     requires env { IsEnv bank.old env.now }
     requires family { HasFamily bank.old family.now }
     ensures answer { Passes bank.new result (first_taken (names_of (env_of bank.old env.now)) (declared_names (family_of bank.old family.now))) }
+    ensures nodes { bank.new.nodes ≡ bank.old.nodes }
     ensures grows { Grows bank.old bank.new }
 {
     let eliminators = eliminator_names(bank, family.name)?;

@@ -1,5 +1,5 @@
 -- What the kernel needs of a bank stays as the bank grows.
-use Rattle.std.proofs.Common.{◌≡◌, ◌∙◌, ℕ, refl, sym, ap, ap₂, subst, arith, List, [], ◌∷◌, ◌++◌, Option, Some, None}
+use Rattle.std.proofs.Common.{◌≡◌, ◌∙◌, take, ℕ, refl, sym, ap, ap₂, subst, arith, List, [], ◌∷◌, ◌++◌, Option, Some, None}
 use Rattle.std.specs.Prelude.{option_map, MatchOption}
 use Rattle.lq_trees.specs.Tree.{Name, Tree, Context, Hypothesis as TreeHypothesis}
 use Rattle.lq_trees.specs.Index.{Within}
@@ -10,6 +10,8 @@ use Rattle.lq_terms.specs.declared.nodes.NameId.{NameId}
 use Rattle.lq_terms.specs.declared.nodes.TermId.{TermId}
 use Rattle.lq_terms.specs.declared.nodes.Hypothesis.{Hypothesis}
 use Rattle.lq_terms.specs.Terms.{Terms, HasName, HasTerm, Grows, IsTerm, IsName, text_of, tree_of}
+use Rattle.lq_terms.specs.declared.bank.BankMark.{BankMark}
+use Rattle.lq_terms.specs.Mark.{mark_of, undone}
 use Rattle.lq_terms.specs.Contexts.{hypothesis_of, context_of, HasBody, HasContext}
 use Rattle.lq_terms.proofs.Growth.{Grows-trans}
 use Rattle.lq_terms.proofs.Tellings.{context_of-grown as terms_context_of-grown}
@@ -179,3 +181,7 @@ pub popped : (o : Option Hypothesis) (before pushed after : List Hypothesis) (v 
 popped None [] pushed after v e h = h.1
 popped None (x ∷ xs) pushed after v e h = grind (arith, e, h.0)
 popped (Some k) before pushed after v e h = snoc_same k v after before (sym h ∙ e)
+
+-- the nodes made after a mark are dropped
+pub nodes_back : (old bank new : Terms) (mark : BankMark) → Grows old bank → mark ≡ mark_of old → new ≡ undone mark bank → new.nodes ≡ old.nodes
+nodes_back old bank new mark g m u = ap (λ z. z.nodes) u ∙ ap (λ (k : BankMark). take k.nodes bank.nodes) m ∙ g.kept

@@ -18,3 +18,4 @@ pub mod TelescopeLaws
 pub mod ConstructorLaws
 pub mod OfferedLaws
 pub mod FamilyWork
+mod Lacking

@@ -54,6 +54,11 @@ abbrev pub IsDeclaration : Terms → Declaration → Type 0
 IsDeclaration bank (Declaration.Constant x A t opaque) = HasName bank x × IsScoped bank 0 A × IsScoped bank 0 t
 IsDeclaration bank (Declaration.Inductive f) = IsOffered bank f
 
+-- what is kept of a declaration's checks: by a constant the bank has the nodes that it had
+abbrev pub Drops : (old new : Terms) → Declaration → Type 0
+Drops old new (Declaration.Constant x A t opaque) = new.nodes ≡ old.nodes
+Drops old new (Declaration.Inductive f) = Unit {0}
+
 -- the work of a declaration
 abbrev pub declare : Terms → Environment → ℕ → Declaration → Kernel Environment
 declare bank env n (Declaration.Constant x A t opaque) = declare_constant env n (text_of bank x) (tree_of bank A) (tree_of bank t) opaque

@@ -51,6 +51,7 @@ pub(crate) fn family_arity(bank: &mut Bank<'_>, family: &Family) -> Result<TermI
         Ok(kind) => Ok(kind),
         Err(EnvFault::TooLarge) => large_type(bank, family.name),
         Err(EnvFault::TooDeep) => deep_type(bank, family.name),
-        Err(_) => Err(NoMemory),
+        Err(EnvFault::NoMemory) => Err(NoMemory),
+        Err(_) => unreachable!(),
     }
 }

@@ -11,7 +11,7 @@ ghost use Rattle.lq_kernel.specs.Closed.{IsScoped};
 ghost use Rattle.lq_kernel.specs.Answers.{Accepts, Declares};
 ghost use Rattle.lq_kernel.specs.Steps.{KnowsAll};
 
-use crate::faults::KernelFault;
+use crate::faults::{KernelFault, lacking};
 use crate::looking::known;
 use crate::typing::{check_in, sort_in};
 use lq_env::{Env, EnvFault};
@@ -55,6 +55,7 @@ fn check_constant<L: Ledger>(
     requires env { IsEnv work.old.bank.now env.now }
     ensures answer { (opaque : Bool) → Accepts work.new.bank.now result (env_of work.old.bank.now env.now ++ (text_of work.old.bank.now name, constant (tree_of work.old.bank.now kind) (tree_of work.old.bank.now body) opaque) ∷ []) (λ n. declare_constant (env_of work.old.bank.now env.now) n (text_of work.old.bank.now name) (tree_of work.old.bank.now kind) (tree_of work.old.bank.now body) opaque) work.old.ticks.now.left work.new.ticks.now.left }
     ensures closed { OnOk result (IsClosed work.old.bank.now 0 kind × IsClosed work.old.bank.now 0 body) }
+    ensures dropped { OnOk result (work.new.bank.now.nodes ≡ work.old.bank.now.nodes) }
     ensures new { OnOk result (is_listed (names_of (env_of work.old.bank.now env.now)) (text_of work.old.bank.now name) ≡ false) }
     ensures same_bank { work.new.bank.ghost_name ≡ work.old.bank.ghost_name }
     ensures same_ticks { work.new.ticks.ghost_name ≡ work.old.ticks.ghost_name }
@@ -91,6 +92,7 @@ pub(crate) fn declare_constant<L: Ledger>(
     ensures answer { Declares work.new.bank.now result env.new (λ n. declare_constant (env_of work.old.bank.now env.old) n (text_of work.old.bank.now name) (tree_of work.old.bank.now kind) (tree_of work.old.bank.now body) opaque) work.old.ticks.now.left work.new.ticks.now.left }
     ensures env { IsEnv work.new.bank.now env.new }
     ensures extends { OnOk result (Extends env.old env.new) }
+    ensures dropped { OnOk result (work.new.bank.now.nodes ≡ work.old.bank.now.nodes) }
     ensures kept { OnErr result (env.new ≡ env.old) }
     ensures same_bank { work.new.bank.ghost_name ≡ work.old.bank.ghost_name }
     ensures same_ticks { work.new.ticks.ghost_name ≡ work.old.ticks.ghost_name }
@@ -102,6 +104,6 @@ pub(crate) fn declare_constant<L: Ledger>(
     work.bank.names_apart();
     match env.add_constant(name, kind, body, opaque) {
         Ok(()) => Ok(()),
-        Err(_) => Err(KernelFault::NoMemory),
+        Err(fault) => Err(lacking(fault)),
     }
 }

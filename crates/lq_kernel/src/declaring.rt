@@ -13,7 +13,7 @@ ghost use Rattle.lq_kernel.specs.Declaring.{IsOffered, LooksOver, FindsSmall, Ad
 
 use crate::arities::family_arity;
 use crate::families::{check_constructors, known_constructors, known_context, sorts_of, telescope};
-use crate::faults::KernelFault;
+use crate::faults::{KernelFault, lacking};
 use lq_env::{Env, Family, refuse_taken_names};
 use lq_terms::{Bank, Context, Steps, Work};
 use lq_trees::Sort;
@@ -33,6 +33,7 @@ fn look_over(
     ensures answer { LooksOver bank.new result (env_of bank.old env.now) (family_of bank.old family.now) }
     ensures new { OnOk result (first_taken (names_of (env_of bank.old env.now)) (declared_names (family_of bank.old family.now)) ≡ None) }
     ensures family { OnOk result (IsFamily bank.old family.now) }
+    ensures nodes { bank.new.nodes ≡ bank.old.nodes }
     ensures grows { Grows bank.old bank.new }
 {
     refuse_taken_names(bank, env, family)?;
@@ -62,12 +63,14 @@ fn check_inside<L: Ledger>(
 {
     let arity = family_arity(work.bank, family)?;
     work.bank.names_apart();
-    let Ok(()) = env.open_family(family.name, arity) else {
-        return Err(KernelFault::NoMemory);
-    };
-    let small = check_constructors(work, env, family, steps);
-    env.close_family();
-    small
+    match env.open_family(family.name, arity) {
+        Ok(()) => {
+            let small = check_constructors(work, env, family, steps);
+            env.close_family();
+            small
+        }
+        Err(fault) => Err(lacking(fault)),
+    }
 }
 
 /// The checks of a family: its names, the sorts of its parameters and indices, its constructors. It answers
@@ -84,6 +87,7 @@ fn check_family<L: Ledger>(
     ensures answer { ChecksFamily work.new.bank.now result (env_of work.old.bank.now env.old) (family_of work.old.bank.now family.now) work.old.ticks.now.left work.new.ticks.now.left }
     ensures new { OnOk result (first_taken (names_of (env_of work.old.bank.now env.old)) (declared_names (family_of work.old.bank.now family.now)) ≡ None) }
     ensures family { OnOk result (IsFamily work.old.bank.now family.now) }
+    ensures dropped { OnOk result (work.new.bank.now.nodes ≡ work.old.bank.now.nodes) }
     ensures kept { env.new ≡ env.old }
     ensures same_bank { work.new.bank.ghost_name ≡ work.old.bank.ghost_name }
     ensures same_ticks { work.new.ticks.ghost_name ≡ work.old.ticks.ghost_name }

@@ -1,5 +1,9 @@
 //! Why the kernel refuses.
 
+ghost use Rattle.std.specs.Prelude.{◌≡◌};
+ghost use Rattle.lq_env.specs.declared.family.EnvFault.{EnvFault as Lack};
+ghost use Rattle.lq_kernel.specs.declared.faults.KernelFault.{KernelFault as Fault};
+
 use lq_env::EnvFault;
 use lq_reduce::ReduceFault;
 use lq_terms::{NameId, NoMemory, SizeFault, TermId};
@@ -121,5 +125,16 @@ impl From<EnvFault> for KernelFault {
             EnvFault::TooLarge => KernelFault::Env(EnvFault::TooLarge),
             EnvFault::TooDeep => KernelFault::Env(EnvFault::TooDeep),
         }
+    }
+}
+
+/// Want of memory, which is all that is left to refuse by.
+pub(crate) fn lacking(fault: EnvFault) -> KernelFault
+    requires { fault ≡ Lack.NoMemory }
+    ensures { result ≡ Fault.NoMemory }
+{
+    match fault {
+        EnvFault::NoMemory => KernelFault::NoMemory,
+        _ => unreachable!(),
     }
 }

@@ -8,7 +8,7 @@ ghost use Rattle.lq_calculus.specs.Checking.{infer_call, check_call, sort_of};
 ghost use Rattle.lq_env.specs.Environments.{IsEnv, env_of, Extends};
 ghost use Rattle.lq_kernel.specs.Closed.{IsScoped, IsContext};
 ghost use Rattle.lq_kernel.specs.Answers.{Infers, Checks, Declares};
-ghost use Rattle.lq_kernel.specs.Declaring.{IsDeclaration, declare};
+ghost use Rattle.lq_kernel.specs.Declaring.{IsDeclaration, Drops, declare};
 ghost use Rattle.lq_kernel.specs.Steps.{Sorts};
 
 use crate::constants::declare_constant;
@@ -54,7 +54,7 @@ pub fn infer<L: Ledger>(
 /// Refuses a term that has not the type under the hypotheses of a context: the term's own type is
 /// inferred, with the refusals and the price of [`infer`], and compared. Before the work, at no tick,
 /// the term and then the type are looked through for strange hypotheses. Where the term has the type,
-/// the terms that were made to find out are dropped.
+/// the terms that were made to find out are dropped: the bank has the nodes that it had.
 pub fn check<L: Ledger>(
     work: &mut Work<'_, '_>,
     env: &Env,
@@ -69,6 +69,7 @@ pub fn check<L: Ledger>(
     requires context { IsContext work.old.bank.now context.now }
     ensures answer { Checks work.new.bank.now result (λ n. check_call (env_of work.old.bank.now env.now) n (context_of work.old.bank.now context.now) (tree_of work.old.bank.now term) (tree_of work.old.bank.now wanted)) work.old.ticks.now.left work.new.ticks.now.left }
     ensures derives { OnOk result (Derives (env_of work.old.bank.now env.now) (context_of work.old.bank.now context.now) (tree_of work.old.bank.now term) (tree_of work.old.bank.now wanted)) }
+    ensures dropped { OnOk result (work.new.bank.now.nodes ≡ work.old.bank.now.nodes) }
     ensures same_bank { work.new.bank.ghost_name ≡ work.old.bank.ghost_name }
     ensures same_ticks { work.new.ticks.ghost_name ≡ work.old.ticks.ghost_name }
     ensures grows { Grows work.old.bank.now work.new.bank.now }
@@ -108,7 +109,7 @@ pub fn sort_of<L: Ledger>(
     sort_in(work, env, &mut lent, term, steps)
 }
 
-/// Appends a declaration that passes the checks; the bank grows.
+/// Appends a declaration that passes the checks; the bank grows, but not by a constant, whose checks' terms are dropped.
 ///
 /// A constant is refused, in this order, for a taken name, for a hypothesis in its type or its body (the first
 /// in pre-order is unbound), for a type without a sort, and for a body that has not the type.
@@ -135,6 +136,7 @@ pub fn declare<L: Ledger>(
     ensures derived { OnOk result (DerivedEnv (env_of work.old.bank.now env.old) → DerivedEnv (env_of work.new.bank.now env.new)) }
     ensures env { IsEnv work.new.bank.now env.new }
     ensures extends { OnOk result (Extends env.old env.new) }
+    ensures dropped { OnOk result (Drops work.old.bank.now work.new.bank.now declaration) }
     ensures kept { OnErr result (env.new ≡ env.old) }
     ensures same_bank { work.new.bank.ghost_name ≡ work.old.bank.ghost_name }
     ensures same_ticks { work.new.ticks.ghost_name ≡ work.old.ticks.ghost_name }

@@ -209,7 +209,8 @@ fn whole_type(bank: &mut Bank<'_>, family: &Family, kind: TermId) -> Result<Term
         Ok(whole) => Ok(whole),
         Err(EnvFault::TooLarge) => Err(KernelFault::TooLarge),
         Err(EnvFault::TooDeep) => Err(KernelFault::TooDeep),
-        Err(_) => Err(KernelFault::NoMemory),
+        Err(EnvFault::NoMemory) => Err(KernelFault::NoMemory),
+        Err(_) => unreachable!(),
     }
 }
 

@@ -1,4 +1,4 @@
-use Rattle.std.proofs.Common.{◌≡◌, ◌+◌, sym, ◌<◌, length, subst, map, take}
+use Rattle.std.proofs.Common.{◌≡◌, ◌∙◌, ◌+◌, sym, ◌<◌, length, subst, map, take}
 use Rattle.lq_terms.specs.Terms.{text_of}
 use Rattle.lq_terms.proofs.Growth.{Grows-trans}
 use Rattle.lq_env.specs.Inductive.{HasNames, firsts, eliminator_named, eliminator_for}
@@ -18,4 +18,5 @@ loop-sort-preserved c =
           (step_named c.args.bank.now c.loop-sort.bank c.eliminator_name.new.bank c.args.family c.in_ok-name.name c.loop-sort.names.items c.every_sort-sort-items.result c.loop-sort.sort-index _ i.0 c.eliminator_name.ensures.grows i.1 c.requires
           within c.in_ok-name.ensures.named i.2),
       i.3,
+      c.eliminator_name.ensures.nodes ∙ i.4,
     )

@@ -8,4 +8,4 @@ use Rattle.lq_env.proofs.inductive.eliminator_names.Given as goal
 abbrev pub invariant-loop-sort : goal.invariant-loop-sort
 invariant-loop-sort l =
     Grows l.initial.bank l.bank × HasNames l.bank (firsts l.names.items)
-    × (map (eliminator_named l.bank) l.names.items ≡ map (eliminator_for (text_of l.initial.bank l.family)) (take l.sort-index l.sort-items)) × (l.sort-items ≡ sorts)
+    × (map (eliminator_named l.bank) l.names.items ≡ map (eliminator_for (text_of l.initial.bank l.family)) (take l.sort-index l.sort-items)) × (l.sort-items ≡ sorts) × (l.bank.nodes ≡ l.initial.bank.nodes)

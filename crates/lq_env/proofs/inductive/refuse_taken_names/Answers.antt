@@ -1,5 +1,4 @@
-use Rattle.std.proofs.Common.{◌≡◌, ◌∙◌, ◌∷◌, ◌++◌, sym, ap, subst}
-use Rattle.lq_env.specs.Families.{Refuses}
+use Rattle.std.proofs.Common.{◌∙◌, ◌∷◌, ◌++◌, sym, ap, subst}
 use Rattle.lq_env.specs.Inductive.{Passes, HasNames, firsts}
 use Rattle.lq_env.proofs.Grown.{IsEnv-grown}
 use Rattle.lq_env.proofs.Declaring.{ready_has, ready_at}

@@ -6,7 +6,8 @@ use Rattle.lq_calculus.specs.Checking.{declare_constant}
 use Rattle.lq_env.specs.Environments.{env_of}
 use Rattle.lq_kernel.specs.Answers.{Accepts}
 use Rattle.lq_kernel.proofs.Goes.{err_out}
-use Rattle.lq_kernel.proofs.Grown.{IsEnv-grown, env_at, tree_at}
+use Rattle.lq_terms.proofs.Growth.{Grows-trans}
+use Rattle.lq_kernel.proofs.Grown.{IsEnv-grown, env_at, tree_at, nodes_back}
 use Rattle.lq_kernel.proofs.ConstantLaws.{constant_taken, constant_strange, kind_stops, constant_ends, closed_both}
 use Rattle.lq_kernel.proofs.constants.check_constant.Goals as goal
 
@@ -51,3 +52,6 @@ returns-clause-answer g c opaque =
 
 pub returns-clause-closed : goal.returns-clause-closed
 returns-clause-closed g c = closed_both c.args.work.now.bank.now c.args.kind c.args.body c.requires.kind c.requires.body c.in_ok-known_alone.ensures
+
+pub returns-clause-dropped : goal.returns-clause-dropped
+returns-clause-dropped g c = nodes_back c.args.work.now.bank.now c.check_in.new.work.bank.now c.undo.new.self c.mark-mark.result (Grows-trans c.args.work.now.bank.now c.sort_in.new.work.bank.now c.check_in.new.work.bank.now c.in_ok-sort_in.ensures.grows c.in_ok-check_in.ensures.grows) c.mark-mark.ensures c.undo.ensures.undone

@@ -9,6 +9,7 @@ use Rattle.lq_kernel.proofs.Goes.{err_out}
 use Rattle.lq_kernel.proofs.Grown.{IsEnv-grown}
 use Rattle.lq_kernel.proofs.Told.{own}
 use Rattle.lq_kernel.proofs.ConstantLaws.{added_later}
+use Rattle.lq_kernel.proofs.Lacking.{constant_lacks}
 use Rattle.lq_kernel.proofs.constants.declare_constant.Goals as goal
 
 pub returns-in_err-check_constant-clause-answer : goal.returns-in_err-check_constant-clause-answer
@@ -44,3 +45,13 @@ pub returns-in-Err-clause-env : goal.returns-in-Err-clause-env
 returns-in-Err-clause-env g c =
     subst (IsEnv c.check_constant.new.work.bank.now) (sym c.in-Err.ensures.kept)
     (IsEnv-grown c.args.work.now.bank.now c.check_constant.new.work.bank.now c.in_ok-check_constant.ensures.grows c.args.env.now c.requires.env)
+
+pub lacking-requires : goal.lacking-requires
+lacking-requires g c =
+    let old = c.args.work.now.bank.now in
+    let bank = c.check_constant.new.work.bank.now in
+    let gr = c.in_ok-check_constant.ensures.grows in
+    let named : HasName bank c.args.name = omega (arith, c.requires.name, gr.names) in
+    let closed = c.in_ok-check_constant.ensures.closed in
+    constant_lacks old bank gr c.args.env.now c.add_constant.new.self c.args.name c.in-Err.fault c.requires.env c.requires.name c.in_ok-check_constant.ensures.new _ _ c.args.opaque
+    (c.in-Err.ensures.told bank (IsEnv-grown old bank gr c.args.env.now c.requires.env) (own bank c.args.name c.names_apart.ensures named) (IsClosed-grown old bank gr 0 c.args.kind closed.0) (IsClosed-grown old bank gr 0 c.args.body closed.1))

@@ -7,7 +7,7 @@ use Rattle.lq_env.specs.Families.{family_of}
 use Rattle.lq_env.proofs.Families.{family_of-grown, IsFamily-grown}
 use Rattle.lq_kernel.specs.Declaring.{ChecksFamily}
 use Rattle.lq_kernel.proofs.Goes.{err_out}
-use Rattle.lq_kernel.proofs.Grown.{IsEnv-grown, env_at}
+use Rattle.lq_kernel.proofs.Grown.{IsEnv-grown, env_at, nodes_back}
 use Rattle.lq_kernel.proofs.OfferedLaws.{IsOffered-grown, offered_telescope, telescope_at}
 use Rattle.lq_kernel.proofs.FamilyWork.{sorts_refused, checks_family, sorts_at, work_at}
 use Rattle.lq_kernel.proofs.declaring.check_family.Goals as goal
@@ -48,3 +48,12 @@ returns-clause-answer g c =
     checks_family (env_of c.args.work.now.bank.now c.args.env.now) (family_of c.args.work.now.bank.now c.args.family.now) c.in_ok-look_over.ensures.answer c.check_inside.new.work.bank.now c.args.work.now.ticks.now.left c.check_inside.new.work.ticks.now.left (Ok c.in_ok-small.small) c.sorts_of.new.work.ticks.now.left (sorts_at c.sorts_of.new.work.bank.now (Ok c.in_ok-sorts_of.field-0) (env_of c.look_over.new.bank c.args.env.now) (env_of c.args.work.now.bank.now c.args.env.now) (context_of c.look_over.new.bank c.in_ok-telescope.telescope) ((family_of c.args.work.now.bank.now c.args.family.now).parameters ++ (family_of c.args.work.now.bank.now c.args.family.now).indices) c.args.work.now.ticks.now.left c.sorts_of.new.work.ticks.now.left (env_at c.args.work.now.bank.now c.look_over.new.bank c.in_ok-look_over.ensures.grows c.args.env.now (env_of c.args.work.now.bank.now c.args.env.now) c.requires.env refl) (telescope_at c.args.work.now.bank.now c.look_over.new.bank c.in_ok-look_over.ensures.grows c.args.family.now c.requires.family.has c.in_ok-telescope.telescope c.in_ok-telescope.ensures) c.in_ok-sorts_of.ensures.answer)
     (work_at c.check_inside.new.work.bank.now (Ok c.in_ok-small.small) (env_of c.sorts_of.new.work.bank.now c.args.env.now) (env_of c.args.work.now.bank.now c.args.env.now) (family_of c.sorts_of.new.work.bank.now c.args.family.now) (family_of c.args.work.now.bank.now c.args.family.now) c.sorts_of.new.work.ticks.now.left c.check_inside.new.work.ticks.now.left
     (env_at c.args.work.now.bank.now c.sorts_of.new.work.bank.now (Grows-trans c.args.work.now.bank.now c.look_over.new.bank c.sorts_of.new.work.bank.now c.in_ok-look_over.ensures.grows c.in_ok-sorts_of.ensures.grows) c.args.env.now (env_of c.args.work.now.bank.now c.args.env.now) c.requires.env refl) (family_of-grown c.args.work.now.bank.now c.sorts_of.new.work.bank.now (Grows-trans c.args.work.now.bank.now c.look_over.new.bank c.sorts_of.new.work.bank.now c.in_ok-look_over.ensures.grows c.in_ok-sorts_of.ensures.grows) c.args.family.now c.requires.family.has) c.in_ok-small.ensures.answer)
+
+pub returns-clause-dropped : goal.returns-clause-dropped
+returns-clause-dropped g c =
+    nodes_back c.look_over.new.bank c.check_inside.new.work.bank.now c.undo.new.self c.mark-mark.result (Grows-trans c.look_over.new.bank c.sorts_of.new.work.bank.now c.check_inside.new.work.bank.now c.in_ok-sorts_of.ensures.grows c.in_ok-small.ensures.grows) c.mark-mark.ensures c.undo.ensures.undone ∙ c.in_ok-look_over.ensures.nodes
+
+pub returns-clause-grows : goal.returns-clause-grows
+returns-clause-grows g c =
+    Grows-trans c.args.work.now.bank.now c.look_over.new.bank c.undo.new.self c.in_ok-look_over.ensures.grows
+    (c.undo.ensures.back c.look_over.new.bank c.mark-mark.ensures (Grows-trans c.look_over.new.bank c.sorts_of.new.work.bank.now c.check_inside.new.work.bank.now c.in_ok-sorts_of.ensures.grows c.in_ok-small.ensures.grows))

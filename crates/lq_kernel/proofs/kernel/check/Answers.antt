@@ -8,6 +8,7 @@ use Rattle.lq_kernel.proofs.Goes.{err_out}
 use Rattle.lq_kernel.specs.Steps.{Knows}
 use Rattle.lq_kernel.proofs.LookLaws.{names_in}
 use Rattle.lq_kernel.proofs.CallLaws.{checks_first, checks_second, checks_type, checks_derived}
+use Rattle.lq_kernel.proofs.Grown.{nodes_back}
 use Rattle.lq_kernel.proofs.kernel.check.Goals as goal
 
 pub returns-in_err-known-clause-answer : goal.returns-in_err-known-clause-answer
@@ -28,3 +29,6 @@ returns-clause-answer g c = (checks_type (env_of c.args.work.now.bank.now c.args
 
 pub returns-clause-derives : goal.returns-clause-derives
 returns-clause-derives g c = checks_derived (env_of c.args.work.now.bank.now c.args.env.now) (context_of c.args.work.now.bank.now c.args.context.now) (tree_of c.args.work.now.bank.now c.args.term) (tree_of c.args.work.now.bank.now c.args.wanted) c.args.work.now.ticks.now.left c.check_in.new.work.ticks.now.left (checks_type (env_of c.args.work.now.bank.now c.args.env.now) (context_of c.args.work.now.bank.now c.args.context.now) (tree_of c.args.work.now.bank.now c.args.term) (tree_of c.args.work.now.bank.now c.args.wanted) c.check_in.new.work.bank.now (Ok tt) c.args.work.now.ticks.now.left c.check_in.new.work.ticks.now.left (subst (λ hs. Knows c.args.work.now.bank.now (Ok tt) (names_in (context_of c.args.work.now.bank.now hs)) (tree_of c.args.work.now.bank.now c.args.term)) c.hypotheses.ensures c.in_ok-known.ensures) (subst (λ hs. Knows c.args.work.now.bank.now (Ok tt) (names_in (context_of c.args.work.now.bank.now hs)) (tree_of c.args.work.now.bank.now c.args.wanted)) c.hypotheses-2.ensures c.in_ok-known-2.ensures) (c.in_ok-check_in.ensures.answer (env_of c.args.work.now.bank.now c.args.env.now) (context_of c.args.work.now.bank.now c.args.context.now) (tree_of c.args.work.now.bank.now c.args.term) (tree_of c.args.work.now.bank.now c.args.wanted) refl (ap (context_of c.args.work.now.bank.now) c.in_ok-lent.ensures) refl refl))
+
+pub returns-clause-dropped : goal.returns-clause-dropped
+returns-clause-dropped g c = nodes_back c.args.work.now.bank.now c.check_in.new.work.bank.now c.undo.new.self c.mark-mark.result c.in_ok-check_in.ensures.grows c.mark-mark.ensures c.undo.ensures.undone
