@@ -1,0 +1,12 @@
+pub mod RuleLaws
+pub mod LoopLaws
+pub mod WordLaws
+pub mod FaultLaws
+pub mod SentenceLaws
+pub mod PlaceLaws
+pub mod SentencePlaces
+pub mod Computing
+mod Trying
+mod TreeRows
+mod LongRows
+mod ScriptRows
