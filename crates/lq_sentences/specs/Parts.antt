@@ -2,7 +2,7 @@
 use Rattle.std.specs.Prelude.{ℕ, Bool, true, false, not, ◌&&◌, ◌||◌, List, [], ◌∷◌, ◌++◌, Option, Some, None}
 use Rattle.lq_grammar.specs.declared.token.Symbol.{Symbol}
 use Rattle.lq_grammar.specs.declared.token.Symbol.TheVariants.{Underscore}
-use Rattle.lq_trees.specs.Tree.{Name}
+use Rattle.lq_trees.specs.Tree.{Name, same_name}
 use Rattle.lq_sentences.specs.Words.{Word, is_name, is_number, is_sign, reads, text_of, value_of}
 use Rattle.lq_sentences.specs.Rules.{Rule, pure, word, choose, loop, ◌>>=◌, ◌<$>◌}
 
@@ -70,6 +70,7 @@ a_binder n = (λ w. (text_of w.0, w.1)) <$> word n is_binder
 abbrev pub some_binders : ℕ → Rule (List (Name × ℕ))
 some_binders n = some n is_binder (λ w. pure (text_of w.0, w.1))
 
--- no word goes on
-abbrev pub refuse : {A : Type 0} → ℕ → A → Rule A
-refuse n a = (λ w. a) <$> word n (λ w. false)
+-- what stands behind a word in a table of words, if it is there
+unfoldable pub entry : {A : Type 0} → List (Name × A) → Name → Option A
+entry [] x = None
+entry (e ∷ es) x = elim (same_name e.0 x) [ true ↦ Some e.1 | false ↦ entry es x ]

@@ -1,10 +1,12 @@
 -- The grammar of the primitives, each behind its word.
-use Rattle.std.specs.Prelude.{ℕ, suc, ◌-◌, true, false, List, [], ◌∷◌, Option, codes}
+use Rattle.std.specs.Prelude.{ℕ, ◌+◌, ◌-◌, true, false, List, [], ◌∷◌, Option, codes}
 use Rattle.lq_grammar.specs.declared.token.Symbol.TheVariants.{ColonEqual, BackArrow, OpenRound, CloseRound, OpenSquare, CloseSquare, Colon, Bar}
 use Rattle.lq_trees.specs.Tree.{Name}
 use Rattle.lq_ast.specs.Syntax.{Surface}
 use Rattle.lq_ast.specs.Syntax as form
 use Rattle.lq_ast.specs.Tactics.{Tac, prim, rule}
+use Rattle.lq_sentences.specs.declared.forms.Primitive.{Primitive}
+use Rattle.lq_sentences.specs.declared.forms.Primitive.TheVariants as which
 use Rattle.lq_sentences.specs.Words.{is_number, is_sign, reads}
 use Rattle.lq_sentences.specs.Rules.{Rule, pure, ◌>>=◌, ◌<$>◌}
 use Rattle.lq_sentences.specs.Parts.{expect, expect_word, eat, maybe, many, separated, a_name, a_number, names, name_word, is_spare}
@@ -16,29 +18,29 @@ abbrev pub with_term : Here → (Surface → Tac) → Rule Tac
 with_term h node = node <$> a_term h
 
 abbrev pub with_name : Here → (Name → Tac) → Rule Tac
-with_name h node = node <$> a_name (suc h.n)
+with_name h node = node <$> a_name (h.n + 1)
 
 -- `(x : A)` and `(x := t)`
 abbrev pub with_pair : Here → (Name → Surface → Tac) → Rule (Unit {0}) → Rule Tac
 with_pair h node sign = do
-  _ ← expect (suc h.n) OpenRound
+  _ ← expect (h.n + 1) OpenRound
   x ← a_name h.n
   _ ← sign
   t ← term h.n free_spot
-  _ ← expect (suc h.n) CloseRound
+  _ ← expect (h.n + 1) CloseRound
   pure (node x t)
 
 -- [name]
 abbrev pub intro_form : Here → Rule Tac
-intro_form h = (λ x. prim (form.intro x)) <$> maybe (is_spare h.ends) (a_name (suc h.n))
+intro_form h = (λ x. prim (form.intro x)) <$> maybe (is_spare h.ends) (a_name (h.n + 1))
 
 -- {name}
 abbrev pub intros_form : Here → Rule Tac
-intros_form h = (λ xs. prim (form.intros xs)) <$> many (suc h.n) (is_spare h.ends) name_word []
+intros_form h = (λ xs. prim (form.intros xs)) <$> many (h.n + 1) (is_spare h.ends) name_word []
 
 -- [number]
 abbrev pub constructor_form : Here → Rule Tac
-constructor_form h = (λ k. prim (form.constructor k)) <$> maybe is_number (a_number (suc h.n))
+constructor_form h = (λ k. prim (form.constructor k)) <$> maybe is_number (a_number (h.n + 1))
 
 -- `as [x y | z]`
 abbrev pub as_names : ℕ → Rule (List (List Name))
@@ -50,11 +52,11 @@ as_names n = do
   pure xs
 
 abbrev pub as_part : Here → Rule (Option (List (List Name)))
-as_part h = maybe (reads (codes "as")) (as_names (suc h.n))
+as_part h = maybe (reads (codes "as")) (as_names (h.n + 1))
 
 abbrev pub induction_form : Here → Rule Tac
 induction_form h = do
-  x ← a_name (suc h.n)
+  x ← a_name (h.n + 1)
   branches ← as_part h
   pure (rule (form.induction x branches))
 
@@ -67,48 +69,80 @@ destruct_form h = do
 -- ["<-"] term
 abbrev pub rewrite_form : Here → Rule Tac
 rewrite_form h = do
-  is_back ← eat (suc h.n) (is_sign BackArrow)
+  is_back ← eat (h.n + 1) (is_sign BackArrow)
   t ← a_term h
   pure (rule (elim is_back [ true ↦ form.rewrite_back t | false ↦ form.rewrite t ]))
 
 -- name "into" name
 abbrev pub rename_form : Here → Rule Tac
 rename_form h = do
-  x ← a_name (suc h.n)
-  _ ← expect_word (suc h.n) (codes "into")
-  y ← a_name (suc h.n)
+  x ← a_name (h.n + 1)
+  _ ← expect_word (h.n + 1) (codes "into")
+  y ← a_name (h.n + 1)
   pure (rule (form.rename x y))
 
--- each word of a primitive with the rule behind it
-unfoldable pub primitives : Here → List (Name × Rule Tac)
-primitives h =
-    (codes "intro", intro_form h)
-    ∷ (codes "intros", intros_form h)
-    ∷ (codes "exact", with_term h (λ t. prim (form.exact t)))
-    ∷ (codes "refine", with_term h (λ t. prim (form.refine t)))
-    ∷ (codes "apply", with_term h (λ t. prim (form.apply_with t)))
-    ∷ (codes "eapply", with_term h (λ t. prim (form.eapply t)))
-    ∷ (codes "assumption", pure (prim form.assumption))
-    ∷ (codes "constructor", constructor_form h)
-    ∷ (codes "split", pure (prim form.split))
-    ∷ (codes "left", pure (prim form.to_left))
-    ∷ (codes "right", pure (prim form.to_right))
-    ∷ (codes "exists", with_term h (λ t. prim (form.exists t)))
-    ∷ (codes "assert", with_pair h (λ x A. prim (form.assert_that x A)) (expect h.n Colon))
-    ∷ (codes "cut", with_term h (λ A. prim (form.cut_by A)))
-    ∷ (codes "pose", with_pair h (λ x t. prim (form.pose x t)) (expect h.n ColonEqual))
-    ∷ (codes "exfalso", pure (prim form.exfalso))
-    ∷ (codes "reflexivity", pure (prim form.reflexivity))
-    ∷ (codes "elim", with_term h (λ t. rule (form.elimination_of t)))
-    ∷ (codes "induction", induction_form h)
-    ∷ (codes "destruct", destruct_form h)
-    ∷ (codes "rewrite", rewrite_form h)
-    ∷ (codes "unfold", with_name h (λ x. rule (form.unfold_constant x)))
-    ∷ (codes "change", with_term h (λ A. rule (form.change A)))
-    ∷ (codes "hnf", pure (rule form.hnf))
-    ∷ (codes "compute", pure (rule form.compute))
-    ∷ (codes "clear", with_name h (λ x. rule (form.clear x)))
-    ∷ (codes "rename", rename_form h)
-    ∷ (codes "revert", with_name h (λ x. rule (form.revert x)))
-    ∷ (codes "generalize", with_term h (λ t. rule (form.generalize t)))
+-- each word of a primitive
+unfoldable pub primitive_words : List (Name × Primitive)
+primitive_words =
+    (codes "intro", which.Intro)
+    ∷ (codes "intros", which.Intros)
+    ∷ (codes "exact", which.Exact)
+    ∷ (codes "refine", which.Refine)
+    ∷ (codes "apply", which.Apply)
+    ∷ (codes "eapply", which.Eapply)
+    ∷ (codes "assumption", which.Assumption)
+    ∷ (codes "constructor", which.Constructor)
+    ∷ (codes "split", which.Split)
+    ∷ (codes "left", which.Left)
+    ∷ (codes "right", which.Right)
+    ∷ (codes "exists", which.Exists)
+    ∷ (codes "assert", which.Assert)
+    ∷ (codes "cut", which.Cut)
+    ∷ (codes "pose", which.Pose)
+    ∷ (codes "exfalso", which.Exfalso)
+    ∷ (codes "reflexivity", which.Reflexivity)
+    ∷ (codes "elim", which.Elim)
+    ∷ (codes "induction", which.Induction)
+    ∷ (codes "destruct", which.Destruct)
+    ∷ (codes "rewrite", which.Rewrite)
+    ∷ (codes "unfold", which.Unfold)
+    ∷ (codes "change", which.Change)
+    ∷ (codes "hnf", which.Hnf)
+    ∷ (codes "compute", which.Compute)
+    ∷ (codes "clear", which.Clear)
+    ∷ (codes "rename", which.Rename)
+    ∷ (codes "revert", which.Revert)
+    ∷ (codes "generalize", which.Generalize)
     ∷ []
+
+-- what stands behind the word of a primitive
+abbrev pub primitive : Here → Primitive → Rule Tac
+primitive h which.Intro = intro_form h
+primitive h which.Intros = intros_form h
+primitive h which.Exact = with_term h (λ t. prim (form.exact t))
+primitive h which.Refine = with_term h (λ t. prim (form.refine t))
+primitive h which.Apply = with_term h (λ t. prim (form.apply_with t))
+primitive h which.Eapply = with_term h (λ t. prim (form.eapply t))
+primitive h which.Assumption = pure (prim form.assumption)
+primitive h which.Constructor = constructor_form h
+primitive h which.Split = pure (prim form.split)
+primitive h which.Left = pure (prim form.to_left)
+primitive h which.Right = pure (prim form.to_right)
+primitive h which.Exists = with_term h (λ t. prim (form.exists t))
+primitive h which.Assert = with_pair h (λ x A. prim (form.assert_that x A)) (expect h.n Colon)
+primitive h which.Cut = with_term h (λ A. prim (form.cut_by A))
+primitive h which.Pose = with_pair h (λ x t. prim (form.pose x t)) (expect h.n ColonEqual)
+primitive h which.Exfalso = pure (prim form.exfalso)
+primitive h which.Reflexivity = pure (prim form.reflexivity)
+primitive h which.Elim = with_term h (λ t. rule (form.elimination_of t))
+primitive h which.Induction = induction_form h
+primitive h which.Destruct = destruct_form h
+primitive h which.Rewrite = rewrite_form h
+primitive h which.Unfold = with_name h (λ x. rule (form.unfold_constant x))
+primitive h which.Change = with_term h (λ A. rule (form.change A))
+primitive h which.Hnf = pure (rule form.hnf)
+primitive h which.Compute = pure (rule form.compute)
+primitive h which.Clear = with_name h (λ x. rule (form.clear x))
+primitive h which.Rename = rename_form h
+primitive h which.Revert = with_name h (λ x. rule (form.revert x))
+primitive h which.Generalize = with_term h (λ t. rule (form.generalize t))

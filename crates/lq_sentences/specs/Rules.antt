@@ -27,6 +27,10 @@ infixr 11 ◌<$>◌
 abbrev pub ◌<$>◌ : {A B : Type 0} → (A → B) → Rule A → Rule B
 f <$> p = both p (λ a. pure (f a))
 
+-- the first rule where a test holds, else the second
+abbrev pub when : {A : Type 0} → Bool → Rule A → Rule A → Rule A
+when b p q = elim b [ true ↦ p | false ↦ q ]
+
 -- whether the next word passes a test
 unfoldable pub sees : (Word → Bool) → Words → Bool
 sees test [] = false

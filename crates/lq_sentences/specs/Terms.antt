@@ -1,13 +1,13 @@
 -- The grammar of terms.
-use Rattle.std.specs.Prelude.{ℕ, zero, suc, ◌-◌, Bool, true, false, not, ◌||◌, ◌&&◌, nat_le, List, [], map, Option, Some, None, codes}
+use Rattle.std.specs.Prelude.{ℕ, zero, suc, ◌+◌, ◌-◌, Bool, true, false, not, ◌||◌, ◌&&◌, nat_le, List, [], map, Option, Some, None, codes}
 use Rattle.lq_grammar.specs.declared.token.Symbol.{Symbol}
 use Rattle.lq_grammar.specs.declared.token.Symbol.TheVariants.{ColonEqual, FatArrow, Arrow as ArrowSign, OpenRound, CloseRound, OpenSquare, CloseSquare, Colon, Comma, Question, Underscore}
-use Rattle.lq_trees.specs.Tree.{Name, same_name}
+use Rattle.lq_trees.specs.Tree.{Name}
 use Rattle.lq_ast.specs.Syntax.{Surface, Domain, Forall, Fun, LetIn, Arrow, Applied, Ident, Blank, PropSort, TypeSort, Cast, Meta, NewVar, Written, Missing, Bound, bound}
 use Rattle.lq_ast.specs.Plain.{joined}
-use Rattle.lq_sentences.specs.Words.{Word, name, number, symbol, is_name, is_sign, reads}
-use Rattle.lq_sentences.specs.Rules.{Rule, pure, word, choose, loop, ◌>>=◌, ◌>>◌, ◌<$>◌}
-use Rattle.lq_sentences.specs.Parts.{expect, expect_word, maybe, some, a_name, a_binder, some_binders, refuse}
+use Rattle.lq_sentences.specs.Words.{Word, number, is_name, is_sign, reads, text_of}
+use Rattle.lq_sentences.specs.Rules.{Rule, when, pure, word, choose, loop, ◌>>=◌, ◌>>◌, ◌<$>◌}
+use Rattle.lq_sentences.specs.Parts.{expect, expect_word, maybe, some, a_name, a_binder, some_binders}
 
 -- the greatest level of `Type`
 abbrev pub top_level : ℕ
@@ -59,43 +59,45 @@ group n m term = do
 
 -- ---- The rules with n levels inside: a word on the term's own level has one more. `term c` reads a term one level deeper, `deeper c` two.
 
--- what stands behind the first word of an atom
-abbrev pub atom_at : ℕ → (Spot → Rule Surface) → Spot → ℕ → Word → Rule Surface
-atom_at n term c p (symbol Underscore) = pure (Blank p)
-atom_at n term c p (symbol OpenRound) = do
+-- what stands behind the bracket of `(t)` and `(t : A)`
+abbrev pub bracketed : ℕ → (Spot → Rule Surface) → Spot → Rule Surface
+bracketed n term c = do
   t ← term (within c)
   A ← maybe (is_sign Colon) (colon_term n (term (within c)))
-  _ ← expect (suc n) CloseRound
+  _ ← expect (n + 1) CloseRound
   pure (elim A [ Some A ↦ Cast t A | None ↦ t ])
-atom_at n term c p (symbol Question) =
-    elim c.is_pattern [
-      | true ↦ Meta <$> a_name (suc n)
-      | false ↦ (do
-        _ ← expect (suc n) OpenSquare
-        x ← a_name n
-        _ ← expect (suc n) CloseSquare
-        pure (NewVar x p))
-    ]
-atom_at n term c p (name x) =
-    elim (same_name x (codes "Prop")) [
-      | true ↦ pure PropSort
-      | false ↦ elim (same_name x (codes "Type")) [ true ↦ (λ w. level_of w.0) <$> word (suc n) is_level | false ↦ pure (Ident x) ]
-    ]
-atom_at n term c p _ = refuse n PropSort
+
+-- `[x]` behind the `?` at that place
+abbrev pub new_variable : ℕ → ℕ → Rule Surface
+new_variable n p = do
+  _ ← expect (n + 1) OpenSquare
+  x ← a_name n
+  _ ← expect (n + 1) CloseSquare
+  pure (NewVar x p)
+
+-- what stands behind the first word of an atom
+abbrev pub atom_at : ℕ → (Spot → Rule Surface) → Spot → ℕ → Word → Rule Surface
+atom_at n term c p w =
+    when (is_sign Underscore w) (pure (Blank p))
+    (when (is_sign OpenRound w) (bracketed n term c)
+    (when (is_sign Question w) (when c.is_pattern (Meta <$> a_name (n + 1)) (new_variable n p))
+    (when (reads (codes "Prop") w) (pure PropSort)
+    (when (reads (codes "Type") w) ((λ v. level_of v.0) <$> word (n + 1) is_level)
+    (pure (Ident (text_of w)))))))
 
 -- atom = name | "_" | "Prop" | "Type" number | "(" term [":" term] ")" | "?" name | "?" "[" name "]"
 abbrev pub atom : ℕ → (Spot → Rule Surface) → Spot → Rule Surface
-atom n term c = word (suc n) begins_atom >>= (λ w. atom_at n term c w.1 w.0)
+atom n term c = word (n + 1) begins_atom >>= (λ w. atom_at n term c w.1 w.0)
 
 -- the arguments behind a function
 abbrev pub arguments : ℕ → (Spot → Rule Surface) → Spot → Surface → Rule Surface
-arguments n term c f = loop (suc n) (λ g w. begins_argument c.ends w) (λ g w. Applied g <$> atom_at n term c w.1 w.0) f
+arguments n term c f = loop (n + 1) (λ g w. begins_argument c.ends w) (λ g w. Applied g <$> atom_at n term c w.1 w.0) f
 
 -- a term that begins with an application of f: app ["->" term]
 abbrev pub arrow_term : ℕ → (Spot → Rule Surface) → Spot → Surface → Rule Surface
 arrow_term n term c f = do
   A ← arguments n term c f
-  B ← maybe (is_sign ArrowSign) (expect (suc n) ArrowSign >> term c)
+  B ← maybe (is_sign ArrowSign) (expect (n + 1) ArrowSign >> term c)
   pure (elim B [ Some B ↦ Arrow A B | None ↦ A ])
 
 -- binders = bname {bname} [":" term] | group {group}
@@ -111,7 +113,7 @@ binders n m term deeper c =
 -- "forall" binders "," term | "fun" binders "=>" term
 abbrev pub quantified : ℕ → ℕ → (Spot → Rule Surface) → (Spot → Rule Surface) → Spot → Name → (Name → Domain → Surface → Surface) → Symbol → Rule Surface
 quantified n m term deeper c head node s = do
-  _ ← expect_word (suc n) head
+  _ ← expect_word (n + 1) head
   xs ← binders n m term deeper c
   _ ← expect n s
   t ← term c
@@ -124,7 +126,7 @@ domain_of None p = Missing p
 -- "let" bname [":" term] ":=" term "in" term
 abbrev pub let_term : ℕ → (Spot → Rule Surface) → Spot → Rule Surface
 let_term n term c = do
-  _ ← expect_word (suc n) (codes "let")
+  _ ← expect_word (n + 1) (codes "let")
   x ← a_binder n
   A ← maybe (is_sign Colon) (colon_term n (term (within c)))
   _ ← expect n ColonEqual
@@ -153,10 +155,10 @@ abbrev pub term : ℕ → Spot → Rule Surface
 term n = (levels n).0
 
 -- an atom with so many levels left, and what a term goes on with behind its first atom
-abbrev pub atom_level : ℕ → Spot → Rule Surface
+unfoldable pub atom_level : ℕ → Spot → Rule Surface
 atom_level zero c = (λ w. PropSort) <$> word 0 begins_atom
 atom_level (suc n) c = atom n (term n) c
 
-abbrev pub term_behind : ℕ → Spot → Surface → Rule Surface
+unfoldable pub term_behind : ℕ → Spot → Surface → Rule Surface
 term_behind zero c f = pure f
 term_behind (suc n) c f = arrow_term n (term n) c f
