@@ -5,6 +5,7 @@ pub mod FaultLaws
 pub mod SentenceLaws
 pub mod PlaceLaws
 pub mod SentencePlaces
+pub mod Settling
 pub mod Computing
 mod Trying
 mod TreeRows

@@ -3,7 +3,7 @@ use Rattle.std.proofs.Common.{◌≡◌, ℕ, zero, suc, ◌≤◌, Bool, true, 
 use Rattle.lq_grammar.specs.declared.token.Symbol.{Symbol}
 use Rattle.lq_sentences.specs.Words.{Word, Words, is_sign}
 use Rattle.lq_sentences.specs.Parts.{many, expect}
-use Rattle.lq_sentences.specs.Rules.{Rule, loop, ◌<$>◌, sees, Read, and_then, read_word, turns, repeated, read}
+use Rattle.lq_sentences.specs.Rules.{Rule, loop, ◌<$>◌, sees, IsWord, a_word, Read, and_then, read_word, turns, repeated, read}
 use Rattle.lq_sentences.proofs.RuleLaws.{sound, shorter, word_sound, word_shorter, chosen_true, chosen_false}
 
 -- what comes behind an answer counts only where there is one
@@ -63,6 +63,13 @@ read_shorter p ws a rest e = shorter p ws a rest (sound p ws (a, rest) e)
 
 pub word_takes : (n : ℕ) (test : Word → Bool) (ws : Words) (w : Word × ℕ) (rest : Words) → read_word n test ws ≡ Ok (w, rest) → suc (length rest) ≤ length ws
 word_takes n test ws w rest e = word_shorter n test ws w rest (word_sound n test ws (w, rest) e)
+
+-- a word that is read passes the test
+pub word_passes : (n : ℕ) (test : Word → Bool) (ws : Words) (w : Word × ℕ) (rest : Words) → read_word n test ws ≡ Ok (w, rest) → test w.0 ≡ true
+word_passes n test ws w rest e = passes (word_sound n test ws (w, rest) e)
+  where
+    passes : {n : ℕ} {test : Word → Bool} {ws : Words} {w : Word × ℕ} {rest : Words} → IsWord n test ws w rest → test w.0 ≡ true
+    passes (a_word p) = p
 
 -- ---- parts in a row
 

@@ -67,8 +67,11 @@ is_binder w = is_name w || is_sign Underscore w
 abbrev pub a_binder : ℕ → Rule (Name × ℕ)
 a_binder n = (λ w. (text_of w.0, w.1)) <$> word n is_binder
 
+abbrev pub binder_word : Word × ℕ → Rule (Name × ℕ)
+binder_word w = pure (text_of w.0, w.1)
+
 abbrev pub some_binders : ℕ → Rule (List (Name × ℕ))
-some_binders n = some n is_binder (λ w. pure (text_of w.0, w.1))
+some_binders n = some n is_binder binder_word
 
 -- what stands behind a word in a table of words, if it is there
 unfoldable pub entry : {A : Type 0} → List (Name × A) → Name → Option A

@@ -1,5 +1,5 @@
 -- The grammar of terms.
-use Rattle.std.specs.Prelude.{ℕ, zero, suc, ◌+◌, ◌-◌, Bool, true, false, not, ◌||◌, ◌&&◌, nat_le, List, [], map, Option, Some, None, codes}
+use Rattle.std.specs.Prelude.{ℕ, zero, suc, ◌+◌, ◌-◌, Bool, false, not, ◌||◌, ◌&&◌, nat_le, List, [], map, Option, Some, None, codes}
 use Rattle.lq_grammar.specs.declared.token.Symbol.{Symbol}
 use Rattle.lq_grammar.specs.declared.token.Symbol.TheVariants.{ColonEqual, FatArrow, Arrow as ArrowSign, OpenRound, CloseRound, OpenSquare, CloseSquare, Colon, Comma, Question, Underscore}
 use Rattle.lq_trees.specs.Tree.{Name}
@@ -59,13 +59,18 @@ group n m term = do
 
 -- ---- The rules with n levels inside: a word on the term's own level has one more. `term c` reads a term one level deeper, `deeper c` two.
 
+-- a term with the type that is written behind it, if there is one
+abbrev pub cast : Surface → Option Surface → Surface
+cast t (Some A) = Cast t A
+cast t None = t
+
 -- what stands behind the bracket of `(t)` and `(t : A)`
 abbrev pub bracketed : ℕ → (Spot → Rule Surface) → Spot → Rule Surface
 bracketed n term c = do
   t ← term (within c)
   A ← maybe (is_sign Colon) (colon_term n (term (within c)))
   _ ← expect (n + 1) CloseRound
-  pure (elim A [ Some A ↦ Cast t A | None ↦ t ])
+  pure (cast t A)
 
 -- `[x]` behind the `?` at that place
 abbrev pub new_variable : ℕ → ℕ → Rule Surface
@@ -75,14 +80,22 @@ new_variable n p = do
   _ ← expect (n + 1) CloseSquare
   pure (NewVar x p)
 
+-- what stands behind the `?` at that place
+abbrev pub behind_question : ℕ → Spot → ℕ → Rule Surface
+behind_question n c p = when c.is_pattern (Meta <$> a_name (n + 1)) (new_variable n p)
+
+-- what stands behind `Type`
+abbrev pub behind_type : ℕ → Rule Surface
+behind_type n = (λ w. level_of w.0) <$> word n is_level
+
 -- what stands behind the first word of an atom
 abbrev pub atom_at : ℕ → (Spot → Rule Surface) → Spot → ℕ → Word → Rule Surface
 atom_at n term c p w =
     when (is_sign Underscore w) (pure (Blank p))
     (when (is_sign OpenRound w) (bracketed n term c)
-    (when (is_sign Question w) (when c.is_pattern (Meta <$> a_name (n + 1)) (new_variable n p))
+    (when (is_sign Question w) (behind_question n c p)
     (when (reads (codes "Prop") w) (pure PropSort)
-    (when (reads (codes "Type") w) ((λ v. level_of v.0) <$> word (n + 1) is_level)
+    (when (reads (codes "Type") w) (behind_type (n + 1))
     (pure (Ident (text_of w)))))))
 
 -- atom = name | "_" | "Prop" | "Type" number | "(" term [":" term] ")" | "?" name | "?" "[" name "]"
@@ -93,12 +106,17 @@ atom n term c = word (n + 1) begins_atom >>= (λ w. atom_at n term c w.1 w.0)
 abbrev pub arguments : ℕ → (Spot → Rule Surface) → Spot → Surface → Rule Surface
 arguments n term c f = loop (n + 1) (λ g w. begins_argument c.ends w) (λ g w. Applied g <$> atom_at n term c w.1 w.0) f
 
+-- a term with what stands behind its `->`, if that is written
+abbrev pub arrow : Surface → Option Surface → Surface
+arrow A (Some B) = Arrow A B
+arrow A None = A
+
 -- a term that begins with an application of f: app ["->" term]
 abbrev pub arrow_term : ℕ → (Spot → Rule Surface) → Spot → Surface → Rule Surface
 arrow_term n term c f = do
   A ← arguments n term c f
   B ← maybe (is_sign ArrowSign) (expect (n + 1) ArrowSign >> term c)
-  pure (elim B [ Some B ↦ Arrow A B | None ↦ A ])
+  pure (arrow A B)
 
 -- binders = bname {bname} [":" term] | group {group}
 abbrev pub binders : ℕ → ℕ → (Spot → Rule Surface) → (Spot → Rule Surface) → Spot → Rule (List Bound)
