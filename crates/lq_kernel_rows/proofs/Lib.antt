@@ -1,3 +1,6 @@
 pub mod Faults
+pub mod Fits
 pub mod Growing
-pub mod Offers
+pub mod Following
+pub mod Scenes
+pub mod Settling

@@ -1,2 +1,3 @@
-pub mod Offers
+pub mod Following
 pub mod Told
+pub mod ToldValues

@@ -1,109 +1,194 @@
-//! Faults of the kernel as rows write them.
+//! Faults, sorts and terms in words.
 
-ghost use Rattle.lq_terms.specs.Terms.{HasTerm, Grows};
-ghost use Rattle.lq_kernel_rows.specs.Told.{HasFault};
+ghost use Rattle.std.specs.Prelude.{IfErr};
+ghost use Rattle.lq_terms.specs.Terms.{HasTerm, HasName};
+ghost use Rattle.lq_kernel_rows.specs.Told.{HasFault, HasEnvFault};
 
 use lq_env::EnvFault;
 use lq_kernel::KernelFault;
-use lq_terms::{Bank, NameId, TermId, same};
+use lq_terms::{Bank, NameId, Node, SizeFault, TermId};
 use lq_trees::Sort;
-use lq_words::{RowFault, build};
+use lq_words::RowFault;
 
-/// A fault as a row writes it: names as texts, and terms in words.
-#[derive(Clone, Copy)]
-pub(crate) enum Told<'a> {
-    Unbound(&'a str),
-    NotAProduct(&'a str),
-    NotASort(&'a str),
-    /// The type that was found, and the one that was wanted.
-    Mismatch(&'a str, &'a str),
-    NoSortAbove,
-    HasVariable(u32),
-    StepsOut,
-    TooBig(&'a str, u64),
-    TooLarge,
-    TooDeep,
-    /// A refusal of the environment.
-    Env(ToldEnv<'a>),
+/// Writes a number, and a blank behind.
+fn write_number(
+    bank: &Bank<'_>,
+    mark: &str,
+    number: u64,
+    out: &mut String,
+) -> Result<(), RowFault> {
+    let text = format!(in bank.allocator(); "{mark}{number} ")?;
+    out.push_str(&text)?;
+    Ok(())
 }
 
-/// A refusal of the environment as a row writes it.
-#[derive(Clone, Copy)]
-pub(crate) enum ToldEnv<'a> {
-    NameTaken(&'a str),
-    NotPositive(&'a str, u64),
-    NestedUse(&'a str, u64),
-    BadResult(&'a str),
-    ElimForbidden(&'a str, Sort),
-    TooLarge,
-    TooDeep,
-}
-
-/// Whether a name has that text.
-fn is_name(bank: &mut Bank<'_>, name: NameId, text: &str) -> Result<bool, RowFault>
-    ensures grows { Grows bank.old bank.new }
+/// Writes a name behind a mark, and a blank behind it.
+fn write_name(bank: &Bank<'_>, mark: &str, name: NameId, out: &mut String) -> Result<(), RowFault>
+    requires { HasName bank.now name }
 {
-    Ok(bank.name(text)? == name)
+    out.push_str(mark)?;
+    out.push_str(bank.text(name))?;
+    out.push(' ')?;
+    Ok(())
 }
 
-/// Whether a term is the one that is written so, but for names of binders.
-pub(crate) fn is_written(bank: &mut Bank<'_>, term: TermId, words: &str) -> Result<bool, RowFault>
-    requires { HasTerm bank.old term }
-    ensures grows { Grows bank.old bank.new }
-{
-    let wanted = build(bank, words)?;
-    Ok(same(bank, term, wanted))
-}
-
-/// Whether a refusal of the environment is the one that is written so.
-fn is_told_env(bank: &mut Bank<'_>, fault: EnvFault, told: ToldEnv<'_>) -> Result<bool, RowFault>
-    ensures grows { Grows bank.old bank.new }
-{
-    match (fault, told) {
-        (EnvFault::NameTaken(name), ToldEnv::NameTaken(text)) => is_name(bank, name, text),
-        (EnvFault::NotPositive(name, place), ToldEnv::NotPositive(text, wanted)) => {
-            Ok(is_name(bank, name, text)? && place == wanted)
+/// Writes a sort, and a blank behind.
+pub(crate) fn write_sort(bank: &Bank<'_>, sort: Sort, out: &mut String) -> Result<(), RowFault> {
+    match sort {
+        Sort::Base => {
+            out.push_str("Prop ")?;
+            Ok(())
         }
-        (EnvFault::NestedUse(name, place), ToldEnv::NestedUse(text, wanted)) => {
-            Ok(is_name(bank, name, text)? && place == wanted)
-        }
-        (EnvFault::BadResult(name), ToldEnv::BadResult(text)) => is_name(bank, name, text),
-        (EnvFault::ElimForbidden(name, sort), ToldEnv::ElimForbidden(text, wanted)) => {
-            Ok(is_name(bank, name, text)? && sort == wanted)
-        }
-        (EnvFault::TooLarge, ToldEnv::TooLarge) => Ok(true),
-        (EnvFault::TooDeep, ToldEnv::TooDeep) => Ok(true),
-        _ => Ok(false),
+        Sort::Level(level) => write_number(bank, "Type.", u64::from(level), out),
     }
 }
 
-/// Whether a fault is the one that is written so.
-pub(crate) fn is_told(
-    bank: &mut Bank<'_>,
-    fault: KernelFault,
-    told: Told<'_>,
-) -> Result<bool, RowFault>
-    requires { HasFault bank.old fault }
-    ensures grows { Grows bank.old bank.new }
+/// Writes a term in the words that rows write it in. It calls itself as deep as the term is.
+fn write_term(bank: &Bank<'_>, term: TermId, out: &mut String) -> Result<(), RowFault>
+    requires { HasTerm bank.now term }
 {
-    match (fault, told) {
-        (KernelFault::Unbound(name), Told::Unbound(text)) => is_name(bank, name, text),
-        (KernelFault::NotAProduct(form), Told::NotAProduct(words)) => {
-            is_written(bank, form, words)
+    match bank.node(term) {
+        Node::Rel(index) => write_number(bank, "", u64::from(*index), out),
+        Node::Var(name) => write_name(bank, "'", *name, out),
+        Node::Sort(sort) => write_sort(bank, *sort, out),
+        Node::Const(name) => write_name(bank, "=", *name, out),
+        Node::Ind(name) => write_name(bank, "", *name, out),
+        Node::Ctor(name, index) => {
+            let text = format!(in bank.allocator(); "{}:{index} ", bank.text(*name))?;
+            out.push_str(&text)?;
+            Ok(())
         }
-        (KernelFault::NotASort(form), Told::NotASort(words)) => is_written(bank, form, words),
-        (KernelFault::Mismatch(found, wanted), Told::Mismatch(first, second)) => {
-            Ok(is_written(bank, found, first)? && is_written(bank, wanted, second)?)
+        Node::Elim(name, sort) => {
+            out.push_str(bank.text(*name))?;
+            out.push('!')?;
+            write_sort(bank, *sort, out)
         }
-        (KernelFault::NoSortAbove, Told::NoSortAbove) => Ok(true),
-        (KernelFault::HasVariable(number), Told::HasVariable(wanted)) => Ok(number == wanted),
-        (KernelFault::StepsOut, Told::StepsOut) => Ok(true),
-        (KernelFault::TooBig(name, place), Told::TooBig(text, wanted)) => {
-            Ok(is_name(bank, name, text)? && place == wanted)
+        Node::Evar(number, _) => write_number(bank, "?", u64::from(*number), out),
+        Node::Let(_, value, kind, rest) => {
+            out.push_str("let ")?;
+            write_term(bank, *value, out)?;
+            write_term(bank, *kind, out)?;
+            write_term(bank, *rest, out)
         }
-        (KernelFault::TooLarge, Told::TooLarge) => Ok(true),
-        (KernelFault::TooDeep, Told::TooDeep) => Ok(true),
-        (KernelFault::Env(refusal), Told::Env(told)) => is_told_env(bank, refusal, told),
-        _ => Ok(false),
+        Node::Prod(_, kind, rest) => {
+            out.push_str("-> ")?;
+            write_term(bank, *kind, out)?;
+            write_term(bank, *rest, out)
+        }
+        Node::Lam(_, kind, body) => {
+            out.push_str("fun ")?;
+            write_term(bank, *kind, out)?;
+            write_term(bank, *body, out)
+        }
+        Node::App(function, argument) => {
+            out.push_str("@ ")?;
+            write_term(bank, *function, out)?;
+            write_term(bank, *argument, out)
+        }
+    }
+}
+
+/// Writes words.
+pub(crate) fn write(out: &mut String, words: &str) -> Result<(), RowFault> {
+    out.push_str(words)?;
+    Ok(())
+}
+
+/// Writes a name with a number: of a constructor and one of its arguments.
+fn write_place(
+    bank: &Bank<'_>,
+    words: &str,
+    name: NameId,
+    place: u64,
+    out: &mut String,
+) -> Result<(), RowFault>
+    requires { HasName bank.now name }
+{
+    write_name(bank, words, name, out)?;
+    write_number(bank, "", place, out)
+}
+
+/// Writes a refusal of an environment.
+pub(crate) fn write_env_fault(
+    bank: &Bank<'_>,
+    fault: EnvFault,
+    out: &mut String,
+) -> Result<(), RowFault>
+    requires { HasEnvFault bank.now fault }
+{
+    match fault {
+        EnvFault::NameTaken(name) => write_name(bank, "taken: ", name, out),
+        EnvFault::NotPositive(name, place) => write_place(bank, "not positive: ", name, place, out),
+        EnvFault::NestedUse(name, place) => write_place(bank, "nested use: ", name, place, out),
+        EnvFault::BadResult(name) => write_name(bank, "bad result: ", name, out),
+        EnvFault::ElimForbidden(name, sort) => {
+            write_name(bank, "forbidden: ", name, out)?;
+            write_sort(bank, sort, out)
+        }
+        EnvFault::TooLarge => write(out, "too large to store "),
+        EnvFault::TooDeep => write(out, "too deep to store "),
+        EnvFault::NoMemory => write(out, "no memory "),
+    }
+}
+
+/// Writes the type that was found, and the one that was wanted.
+fn write_mismatch(
+    bank: &Bank<'_>,
+    found: TermId,
+    wanted: TermId,
+    out: &mut String,
+) -> Result<(), RowFault>
+    requires found { HasTerm bank.now found }
+    requires wanted { HasTerm bank.now wanted }
+{
+    write(out, "found ")?;
+    write_term(bank, found, out)?;
+    write(out, "wanted ")?;
+    write_term(bank, wanted, out)
+}
+
+/// Writes words, and a term.
+fn write_words(bank: &Bank<'_>, words: &str, term: TermId, out: &mut String) -> Result<(), RowFault>
+    requires { HasTerm bank.now term }
+{
+    write(out, words)?;
+    write_term(bank, term, out)
+}
+
+/// Writes a refusal of the kernel.
+pub(crate) fn write_fault(
+    bank: &Bank<'_>,
+    fault: KernelFault,
+    out: &mut String,
+) -> Result<(), RowFault>
+    requires { HasFault bank.now fault }
+{
+    match fault {
+        KernelFault::Unbound(name) => write_name(bank, "unbound: ", name, out),
+        KernelFault::NotAProduct(term) => write_words(bank, "not a product: ", term, out),
+        KernelFault::NotASort(term) => write_words(bank, "not a sort: ", term, out),
+        KernelFault::Mismatch(found, wanted) => write_mismatch(bank, found, wanted, out),
+        KernelFault::NoSortAbove => write(out, "no sort above "),
+        KernelFault::HasVariable(number) => {
+            write_number(bank, "a variable: ?", u64::from(number), out)
+        }
+        KernelFault::StepsOut => write(out, OUT),
+        KernelFault::TooBig(name, place) => write_place(bank, "too big: ", name, place, out),
+        KernelFault::TooLarge => write(out, "too large "),
+        KernelFault::TooDeep => write(out, "too deep "),
+        KernelFault::Env(fault) => write_env_fault(bank, fault, out),
+        KernelFault::NoMemory => write(out, "no memory "),
+    }
+}
+
+/// What is written where the budget is spent.
+pub(crate) const OUT: &str = "out of ticks ";
+
+/// The word for a term that is not within the limits.
+pub(crate) fn size_word(fault: SizeFault) -> &'static str {
+    match fault {
+        SizeFault::TooLarge => "too large",
+        SizeFault::TooDeep => "too deep",
+        SizeFault::NoMemory => "no memory",
     }
 }

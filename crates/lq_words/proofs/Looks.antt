@@ -15,7 +15,7 @@ use Rattle.lq_words.specs.Looks.{Stands, Reads}
 -- one hypothesis more
 pub reads_next :
     (bank : Terms) (names : List Name) (hs : List Hypothesis) (i : ℕ) (d : Hypothesis) (after : List Name) → i < length hs → (get_or hs i d).body ≡ None → is_listed names (text_of bank (get_or hs i d).name) ≡ false
-    → Stands names 0 (tree_of bank (get_or hs i d).kind) → Reads (text_of bank (get_or hs i d).name ∷ names) (context_of bank (drop (i + 1) hs)) after → Reads names (context_of bank (drop i hs)) after
+    → Stands names 0 0 (tree_of bank (get_or hs i d).kind) → Reads (text_of bank (get_or hs i d).name ∷ names) (context_of bank (drop (i + 1) hs)) after → Reads names (context_of bank (drop i hs)) after
 reads_next bank names hs i d after l b new s r =
     subst (λ ks. Reads names (context_of bank ks) after) (sym (drop_more hs i d l))
     ((record { new = new; bodiless = ap (option_map (tree_of bank)) b; kind = record { within = s.0; holds = s.1 } }, r.0), r.1)
@@ -40,8 +40,8 @@ context_at bank (x ∷ xs) (suc i) d h l = context_at bank xs i d h.1 (omega ari
 
 pub reads_step :
     (bank : Terms) (ns ds es new : List NameId) (hs : List Hypothesis) (i : ℕ) (d : Hypothesis) (after : List Name) → ds ≡ ns → es ≡ ns → new ≡ (get_or hs i d).name ∷ ns → i < length hs → (get_or hs i d).body ≡ None
-    → is_listed (map (text_of bank) ds) (text_of bank (get_or hs i d).name) ≡ false → Stands (map (text_of bank) es) 0 (tree_of bank (get_or hs i d).kind) → Reads (map (text_of bank) new) (context_of bank (drop (i + 1) hs)) after
+    → is_listed (map (text_of bank) ds) (text_of bank (get_or hs i d).name) ≡ false → Stands (map (text_of bank) es) 0 0 (tree_of bank (get_or hs i d).kind) → Reads (map (text_of bank) new) (context_of bank (drop (i + 1) hs)) after
     → Reads (map (text_of bank) ns) (context_of bank (drop i hs)) after
 reads_step bank ns ds es new hs i d after e f g l b u s r =
     reads_next bank (map (text_of bank) ns) hs i d after l b (subst (λ z. is_listed (map (text_of bank) z) (text_of bank (get_or hs i d).name) ≡ false) e u)
-    (subst (λ z. Stands (map (text_of bank) z) 0 (tree_of bank (get_or hs i d).kind)) f s) (subst (λ z. Reads (map (text_of bank) z) (context_of bank (drop (i + 1) hs)) after) g r)
+    (subst (λ z. Stands (map (text_of bank) z) 0 0 (tree_of bank (get_or hs i d).kind)) f s) (subst (λ z. Reads (map (text_of bank) z) (context_of bank (drop (i + 1) hs)) after) g r)

@@ -1,43 +1,64 @@
-//! Declarations written down, and how an environment takes them.
+//! Families and constants in words, and how an environment takes them.
 
-ghost use Rattle.std.specs.Prelude.{◌≡◌, IfOk, OnOk};
+ghost use Rattle.std.specs.Prelude.{◌≡◌, IfOk, OnOk, IfSome};
 ghost use Rattle.std.specs.List.{AllByRecursion};
-ghost use Rattle.lq_terms.specs.Terms.{HasName, Grows};
+ghost use Rattle.lq_terms.specs.Terms.{HasTerm, Grows};
 ghost use Rattle.lq_terms.specs.Contexts.{HasContext};
 ghost use Rattle.lq_terms.specs.Telling.{IsClosed};
-ghost use Rattle.lq_env.specs.Families.{HasConstructor, HasFamily};
-ghost use Rattle.lq_env.specs.Environments.{IsEnv, Extends};
+ghost use Rattle.lq_words.specs.Low.{IsLow};
+ghost use Rattle.lq_env.specs.Families.{HasConstructor, HasFamily, IsFamily};
 
 use crate::terms::{RowFault, build};
-use crate::written::{are_sorts, is_closed, is_written};
-use lq_env::{Constructors, Env, Family};
-use lq_terms::{Bank, Context, Hypothesis, NameId, TermId};
+use crate::words::sort_of;
+use crate::written::{is_closed, is_written};
+use lq_env::{Constructors, Family};
+use lq_terms::{Bank, Context, Hypothesis, TermId};
 use lq_trees::Sort;
 
-/// A family as a row writes it: names, and terms in words.
+/// A family as a row writes it: `NAME : SORT | PARAMETERS | INDICES | CONSTRUCTORS`, each of them names with their
+/// types, as `A : Prop; B : Prop`.
 #[derive(Clone, Copy)]
 pub struct Written<'a> {
+    /// Its name.
     pub name: &'a str,
-    pub parameters: &'a [(&'a str, &'a str)],
-    pub indices: &'a [(&'a str, &'a str)],
+    /// Its sort.
     pub sort: Sort,
-    pub constructors: &'a [(&'a str, &'a str)],
-    /// The sorts that it may be eliminated into.
-    pub into: &'a [Sort],
+    /// Its parameters.
+    pub parameters: &'a str,
+    /// Its indices.
+    pub indices: &'a str,
+    /// Its constructors: `c*9 : T` are nine, `c0` to `c8`.
+    pub constructors: &'a str,
 }
 
-/// One more hypothesis.
-fn assume(
+/// The family that is written so.
+pub fn parse_family<'a>(text: &'a str) -> Option<Written<'a>> {
+    let (head, rest) = text.split_once('|')?;
+    let (parameters, rest) = rest.split_once('|')?;
+    let (indices, constructors) = rest.split_once('|')?;
+    let (name, sort) = head.split_once(" : ")?;
+    let sort = sort_of(sort.trim())?;
+    Some(Written {
+        name: name.trim(),
+        sort,
+        parameters,
+        indices,
+        constructors,
+    })
+}
+
+/// One more hypothesis of that type.
+fn push(
     bank: &mut Bank<'_>,
     context: &mut Context,
     name: &str,
-    kind: &str,
+    kind: TermId,
 ) -> Result<(), RowFault>
-    requires { HasContext bank.old context.old }
+    requires context { HasContext bank.old context.old }
+    requires kind { HasTerm bank.old kind }
     ensures has { OnOk result (HasContext bank.new context.new) }
     ensures grows { Grows bank.old bank.new }
 {
-    let kind = build(bank, kind)?;
     let name = bank.name(name)?;
     context.push(Hypothesis {
         name,
@@ -47,43 +68,106 @@ fn assume(
     Ok(())
 }
 
+/// One more hypothesis.
+fn assume(bank: &mut Bank<'_>, context: &mut Context, pair: &str) -> Result<(), RowFault>
+    requires { HasContext bank.old context.old }
+    ensures has { OnOk result (HasContext bank.new context.new) }
+    ensures grows { Grows bank.old bank.new }
+{
+    let Some((name, kind)) = pair.split_once(" : ") else {
+        return Err(RowFault::Malformed);
+    };
+    let kind = build(bank, kind)?;
+    push(bank, context, name.trim(), kind)
+}
+
+/// The names and types that are written so, in order.
+fn context(bank: &mut Bank<'_>, pairs: &str) -> Result<Context, RowFault>
+    ensures has { IfOk result (HasContext bank.new) }
+    ensures grows { Grows bank.old bank.new }
+{
+    let mut context = Context::new(bank.allocator());
+    for pair in pairs.split(';') {
+        if !pair.trim().is_empty() {
+            assume(bank, &mut context, pair)?;
+        }
+    }
+    Ok(context)
+}
+
 /// One more constructor.
+#[tactic(auto, using(crate::proofs::Lows::lows))]
 fn construct(
     bank: &mut Bank<'_>,
     constructors: &mut Constructors,
     name: &str,
-    kind: &str,
+    kind: TermId,
 ) -> Result<(), RowFault>
-    requires { AllByRecursion (HasConstructor bank.old) constructors.old }
+    requires constructors { AllByRecursion (HasConstructor bank.old) constructors.old }
+    requires kind { IsLow bank.old kind }
     ensures has { OnOk result (AllByRecursion (HasConstructor bank.new) constructors.new) }
     ensures grows { Grows bank.old bank.new }
 {
-    let kind = build(bank, kind)?;
     let name = bank.name(name)?;
     constructors.push(name, kind)?;
     Ok(())
 }
 
-/// A context of these names and types, in order.
-fn context(bank: &mut Bank<'_>, pairs: &[(&str, &str)]) -> Result<Context, RowFault>
-    ensures has { IfOk result (HasContext bank.new) }
+/// So many constructors of one type, whose names end in their numbers.
+#[tactic(auto, using(crate::proofs::Lows::lows))]
+fn construct_many(
+    bank: &mut Bank<'_>,
+    constructors: &mut Constructors,
+    name: &str,
+    count: u32,
+    kind: TermId,
+) -> Result<(), RowFault>
+    requires constructors { AllByRecursion (HasConstructor bank.old) constructors.old }
+    requires kind { IsLow bank.old kind }
+    ensures has { OnOk result (AllByRecursion (HasConstructor bank.new) constructors.new) }
     ensures grows { Grows bank.old bank.new }
 {
-    let mut context = Context::new(bank.allocator());
-    for pair in pairs {
-        assume(bank, &mut context, pair.0, pair.1)?;
+    for index in 0..count {
+        let name = format!(in bank.allocator(); "{name}{index}")?;
+        construct(bank, constructors, &name, kind)?;
     }
-    Ok(context)
+    Ok(())
 }
 
-/// Constructors of these names and types, in order.
-fn constructors(bank: &mut Bank<'_>, pairs: &[(&str, &str)]) -> Result<Constructors, RowFault>
+/// The constructors that are written so.
+#[tactic(auto, using(crate::proofs::Lows::lows))]
+fn construct_written(
+    bank: &mut Bank<'_>,
+    constructors: &mut Constructors,
+    pair: &str,
+) -> Result<(), RowFault>
+    requires { AllByRecursion (HasConstructor bank.old) constructors.old }
+    ensures has { OnOk result (AllByRecursion (HasConstructor bank.new) constructors.new) }
+    ensures grows { Grows bank.old bank.new }
+{
+    let Some((name, kind)) = pair.split_once(" : ") else {
+        return Err(RowFault::Malformed);
+    };
+    let kind = build(bank, kind)?;
+    match name.trim().split_once('*') {
+        Some((name, count)) => match count.parse::<u32>() {
+            Ok(count) => construct_many(bank, constructors, name, count, kind),
+            Err(_) => Err(RowFault::Malformed),
+        },
+        None => construct(bank, constructors, name.trim(), kind),
+    }
+}
+
+/// The constructors of these names and types, in order.
+fn constructors(bank: &mut Bank<'_>, pairs: &str) -> Result<Constructors, RowFault>
     ensures has { IfOk result (AllByRecursion (HasConstructor bank.new)) }
     ensures grows { Grows bank.old bank.new }
 {
     let mut made = Constructors::new(bank.allocator());
-    for pair in pairs {
-        construct(bank, &mut made, pair.0, pair.1)?;
+    for pair in pairs.split(';') {
+        if !pair.trim().is_empty() {
+            construct_written(bank, &mut made, pair)?;
+        }
     }
     Ok(made)
 }
@@ -106,92 +190,16 @@ pub fn family(bank: &mut Bank<'_>, written: Written<'_>) -> Result<Family, RowFa
     })
 }
 
-/// So many constructors `c0`, `c1` and so on, without arguments, of a family.
-fn many(bank: &mut Bank<'_>, family: &str, count: u32) -> Result<Constructors, RowFault>
-    ensures has { IfOk result (AllByRecursion (HasConstructor bank.new)) }
-    ensures grows { Grows bank.old bank.new }
-{
-    let mut made = Constructors::new(bank.allocator());
-    for index in 0..count {
-        let name = format!(in bank.allocator(); "c{index}")?;
-        construct(bank, &mut made, &name, family)?;
-    }
-    Ok(made)
-}
-
-/// A proposition of so many constructors without arguments.
-fn enumeration(bank: &mut Bank<'_>, text: &str, count: u32) -> Result<Family, RowFault>
-    ensures has { IfOk result (HasFamily bank.new) }
-    ensures grows { Grows bank.old bank.new }
-{
-    let constructors = many(bank, text, count)?;
-    let name = bank.name(text)?;
-    Ok(Family {
-        name,
-        parameters: Context::new(bank.allocator()),
-        indices: Context::new(bank.allocator()),
-        sort: Sort::Base,
-        constructors,
-    })
-}
-
-/// Declares a family with its eliminators into sorts, if it is as its callers promise.
-fn add(bank: &mut Bank<'_>, env: &mut Env, family: Family, into: &[Sort]) -> Result<(), RowFault>
-    requires env { IsEnv bank.old env.old }
-    requires family { HasFamily bank.old family }
-    ensures env { IsEnv bank.new env.new }
-    ensures extends { OnOk result (Extends env.old env.new) }
-    ensures grows { Grows bank.old bank.new }
-{
-    if !are_sorts(into) || !is_written(bank, &family)? {
-        return Err(RowFault::Unwritten);
-    }
-    match env.add_inductive(bank, family, into) {
-        Ok(()) => Ok(()),
-        Err(fault) => Err(RowFault::Refused(fault)),
-    }
-}
-
-/// Declares the family that is written so.
-#[tactic(auto, using(crate::proofs::Environments::growing))]
-pub fn declare(bank: &mut Bank<'_>, env: &mut Env, written: Written<'_>) -> Result<NameId, RowFault>
-    requires { IsEnv bank.old env.old }
-    ensures env { IsEnv bank.new env.new }
-    ensures extends { OnOk result (Extends env.old env.new) }
-    ensures has { IfOk result (HasName bank.new) }
+/// The family that is written so, as an environment takes it.
+pub fn taken_family(bank: &mut Bank<'_>, written: Written<'_>) -> Result<Family, RowFault>
+    ensures family { IfOk result (IsFamily bank.new) }
     ensures grows { Grows bank.old bank.new }
 {
     let family = family(bank, written)?;
-    let name = family.name;
-    add(bank, env, family, written.into)?;
-    Ok(name)
-}
-
-/// Declares families in order.
-pub fn declare_all(
-    bank: &mut Bank<'_>,
-    env: &mut Env,
-    families: &[Written<'_>],
-) -> Result<(), RowFault>
-    requires { IsEnv bank.old env.old }
-    ensures env { IsEnv bank.new env.new }
-    ensures grows { Grows bank.old bank.new }
-{
-    for family in families {
-        declare(bank, env, *family)?;
+    if !is_written(bank, &family)? {
+        return Err(RowFault::Unwritten);
     }
-    Ok(())
-}
-
-/// Declares a proposition of so many constructors without arguments, with its eliminator into `Prop`.
-#[tactic(auto, using(crate::proofs::Environments::growing))]
-pub fn enumerate(bank: &mut Bank<'_>, env: &mut Env, text: &str, count: u32) -> Result<(), RowFault>
-    requires { IsEnv bank.old env.old }
-    ensures env { IsEnv bank.new env.new }
-    ensures grows { Grows bank.old bank.new }
-{
-    let family = enumeration(bank, text, count)?;
-    add(bank, env, family, &[Sort::Base])
+    Ok(family)
 }
 
 /// A term without loose bound variables and hypotheses.
@@ -204,46 +212,4 @@ pub fn closed(bank: &mut Bank<'_>, text: &str) -> Result<TermId, RowFault>
         return Err(RowFault::Unwritten);
     }
     Ok(term)
-}
-
-/// Declares a constant.
-fn add_constant(
-    bank: &Bank<'_>,
-    env: &mut Env,
-    name: NameId,
-    kind: TermId,
-    body: TermId,
-    opaque: bool,
-) -> Result<(), RowFault>
-    requires env { IsEnv bank.now env.old }
-    requires name { HasName bank.now name }
-    requires kind { IsClosed bank.now 0 kind }
-    requires body { IsClosed bank.now 0 body }
-    ensures { IsEnv bank.now env.new }
-{
-    let _text = bank.text(name);
-    match env.add_constant(name, kind, body, opaque) {
-        Ok(()) => Ok(()),
-        Err(fault) => Err(RowFault::Refused(fault)),
-    }
-}
-
-/// Declares the constant that is written so.
-#[tactic(auto, using(crate::proofs::Environments::growing))]
-pub fn define(
-    bank: &mut Bank<'_>,
-    env: &mut Env,
-    name: &str,
-    kind: &str,
-    body: &str,
-    opaque: bool,
-) -> Result<(), RowFault>
-    requires { IsEnv bank.old env.old }
-    ensures env { IsEnv bank.new env.new }
-    ensures grows { Grows bank.old bank.new }
-{
-    let kind = closed(bank, kind)?;
-    let body = closed(bank, body)?;
-    let name = bank.name(name)?;
-    add_constant(bank, env, name, kind, body, opaque)
 }

@@ -1,12 +1,10 @@
 //! Terms in a bank, from their words.
 
 ghost use Rattle.std.specs.Prelude.{◌≡◌, IfOk, OnOk};
-ghost use Rattle.std.specs.List.{AllByRecursion};
-ghost use Rattle.lq_terms.specs.Terms.{HasTerm, HasName, HasParts, Grows};
-ghost use Rattle.lq_words.specs.Steps.{HasStack};
+ghost use Rattle.lq_terms.specs.Terms.{HasName, HasTerm, Grows};
+ghost use Rattle.lq_words.specs.Low.{IsLow, IsLowNode, HasStack};
 
-use crate::words::{Step, steps_of};
-use lq_env::EnvFault;
+use crate::words::{Shape, Step, steps_of};
 use lq_terms::{Bank, Instance, NameId, NoMemory, Node, TermId};
 use std::alloc::{AllocError, AllocFailed};
 
@@ -15,12 +13,10 @@ use std::alloc::{AllocError, AllocFailed};
 pub enum RowFault {
     /// There was no memory.
     NoMemory,
-    /// A term is not written as one.
+    /// The row, or a term in it, is not written as one.
     Malformed,
-    /// A declaration is not as its callers promise.
+    /// What is written is not as the callers of what is asked promise.
     Unwritten,
-    /// The environment refuses it.
-    Refused(EnvFault),
 }
 
 impl From<NoMemory> for RowFault {
@@ -41,6 +37,15 @@ impl<T: Drop> From<AllocFailed<T>> for RowFault {
     }
 }
 
+/// The parts of a node around a term: a binder, a first and a second part, and the term.
+#[derive(Clone, Copy)]
+struct Parts {
+    binder: NameId,
+    first: TermId,
+    second: TermId,
+    term: TermId,
+}
+
 /// The name in a step.
 fn text<'a>(step: Step<'a>) -> &'a str {
     match step {
@@ -49,14 +54,14 @@ fn text<'a>(step: Step<'a>) -> &'a str {
         Step::Ind(text) => text,
         Step::Ctor(text, _) => text,
         Step::Elim(text, _) => text,
-        _ => "",
+        _ => "x",
     }
 }
 
 /// Takes the last term.
 fn pop(bank: &Bank<'_>, stack: &mut Vec<TermId>) -> Result<TermId, RowFault>
     requires { HasStack bank.now stack.old.items }
-    ensures has { IfOk result (HasTerm bank.now) }
+    ensures has { IfOk result (IsLow bank.now) }
     ensures rest { HasStack bank.now stack.new.items }
 {
     let _bank = bank;
@@ -66,8 +71,39 @@ fn pop(bank: &Bank<'_>, stack: &mut Vec<TermId>) -> Result<TermId, RowFault>
     }
 }
 
-/// The node of a step over the last terms.
-fn node_of(
+/// A variable with so many entries, each of them the part.
+fn variable(bank: &Bank<'_>, number: u32, count: u32, part: TermId) -> Result<Node, NoMemory>
+    requires { IsLow bank.now part }
+    ensures { IfOk result (IsLowNode bank.now) }
+{
+    let mut entries = Instance::new(bank.allocator());
+    for _ in 0..count {
+        entries.push(part)?;
+    }
+    Ok(Node::Evar(number, entries))
+}
+
+/// A variable with as many entries, each of them the last term; without entries it needs none.
+fn waiting(
+    bank: &Bank<'_>,
+    stack: &mut Vec<TermId>,
+    number: u32,
+    count: u32,
+) -> Result<Node, RowFault>
+    requires stack { HasStack bank.now stack.old.items }
+    ensures low { IfOk result (IsLowNode bank.now) }
+    ensures rest { HasStack bank.now stack.new.items }
+{
+    if count == 0 {
+        return Ok(Node::Evar(number, Instance::new(bank.allocator())));
+    }
+    let part = pop(bank, stack)?;
+    let node = variable(bank, number, count, part)?;
+    Ok(node)
+}
+
+/// The node of a step that is not around a term.
+fn leaf(
     bank: &Bank<'_>,
     stack: &mut Vec<TermId>,
     step: Step<'_>,
@@ -75,101 +111,147 @@ fn node_of(
 ) -> Result<Node, RowFault>
     requires stack { HasStack bank.now stack.old.items }
     requires name { HasName bank.now name }
-    ensures has { IfOk result (HasParts bank.now) }
+    ensures low { IfOk result (IsLowNode bank.now) }
     ensures rest { HasStack bank.now stack.new.items }
 {
     match step {
-        Step::Rel(index) => Ok(Node::Rel(index)),
+        Step::Rel(index) => {
+            if index < 1_000_000 {
+                Ok(Node::Rel(index))
+            } else {
+                Err(RowFault::Malformed)
+            }
+        }
         Step::Var(_) => Ok(Node::Var(name)),
         Step::Sort(sort) => Ok(Node::Sort(sort)),
-        Step::Lam => {
-            let kind = pop(bank, stack)?;
-            let body = pop(bank, stack)?;
-            Ok(Node::Lam(name, kind, body))
-        }
-        Step::Let => {
-            let value = pop(bank, stack)?;
-            let kind = pop(bank, stack)?;
-            let rest = pop(bank, stack)?;
-            Ok(Node::Let(name, value, kind, rest))
-        }
-        Step::App => {
-            let function = pop(bank, stack)?;
-            let argument = pop(bank, stack)?;
-            Ok(Node::App(function, argument))
-        }
         Step::Const(_) => Ok(Node::Const(name)),
         Step::Ind(_) => Ok(Node::Ind(name)),
         Step::Ctor(_, index) => Ok(Node::Ctor(name, index)),
         Step::Elim(_, sort) => Ok(Node::Elim(name, sort)),
-        Step::Evar(index) => Ok(Node::Evar(index, Instance::new(bank.allocator()))),
+        Step::Evar(number, count) => waiting(bank, stack, number, count),
         _ => Err(RowFault::Malformed),
     }
 }
 
+/// The node of a shape around a term.
+#[tactic(auto, using(crate::proofs::Lows::lows))]
+fn around(bank: &Bank<'_>, shape: Shape, parts: Parts) -> Node
+    requires binder { HasName bank.now parts.binder }
+    requires first { IsLow bank.now parts.first }
+    requires second { IsLow bank.now parts.second }
+    requires term { IsLow bank.now parts.term }
+    ensures { IsLowNode bank.now result }
+{
+    let _bank = bank;
+    match shape {
+        Shape::Prod => Node::Prod(parts.binder, parts.first, parts.term),
+        Shape::Lam => Node::Lam(parts.binder, parts.first, parts.term),
+        Shape::Let => Node::Let(parts.binder, parts.first, parts.second, parts.term),
+        Shape::App => Node::App(parts.first, parts.term),
+        Shape::Spine => Node::App(parts.term, parts.first),
+        Shape::Nest => Node::Prod(parts.binder, parts.term, parts.first),
+        Shape::Double => Node::Prod(parts.binder, parts.term, parts.term),
+        Shape::Twice => Node::App(parts.term, parts.term),
+    }
+}
+
+/// The term of a node.
+#[tactic(auto, using(crate::proofs::Lows::lows))]
+fn make(bank: &mut Bank<'_>, node: Node) -> Result<TermId, NoMemory>
+    requires { IsLowNode bank.old node }
+    ensures low { IfOk result (IsLow bank.new) }
+    ensures grows { Grows bank.old bank.new }
+{
+    bank.make(node)
+}
+
+/// So many nodes of a shape around a term.
+#[tactic(auto, using(crate::proofs::Lows::lows))]
+fn layers(
+    bank: &mut Bank<'_>,
+    shape: Shape,
+    count: u32,
+    first: TermId,
+    second: TermId,
+    term: TermId,
+) -> Result<TermId, NoMemory>
+    requires first { IsLow bank.old first }
+    requires second { IsLow bank.old second }
+    requires term { IsLow bank.old term }
+    ensures low { IfOk result (IsLow bank.new) }
+    ensures grows { Grows bank.old bank.new }
+{
+    let binder = bank.name("x")?;
+    let mut term = term;
+    for _ in 0..count {
+        let parts = Parts {
+            binder,
+            first,
+            second,
+            term,
+        };
+        let node = around(bank, shape, parts);
+        term = make(bank, node)?;
+    }
+    Ok(term)
+}
+
+/// The first and the second part of a shape, and the term; what a shape lacks is the term again.
+fn pop_parts(
+    bank: &Bank<'_>,
+    stack: &mut Vec<TermId>,
+    shape: Shape,
+) -> Result<(TermId, TermId, TermId), RowFault>
+    requires { HasStack bank.now stack.old.items }
+    ensures first { IfOk result (λ p. IsLow bank.now p.0) }
+    ensures second { IfOk result (λ p. IsLow bank.now p.1) }
+    ensures term { IfOk result (λ p. IsLow bank.now p.2) }
+    ensures rest { HasStack bank.now stack.new.items }
+{
+    let first = pop(bank, stack)?;
+    match shape {
+        Shape::Double => Ok((first, first, first)),
+        Shape::Twice => Ok((first, first, first)),
+        Shape::Let => {
+            let second = pop(bank, stack)?;
+            let term = pop(bank, stack)?;
+            Ok((first, second, term))
+        }
+        _ => {
+            let term = pop(bank, stack)?;
+            Ok((first, term, term))
+        }
+    }
+}
+
 /// One more term, of one node.
+#[tactic(auto, using(crate::proofs::Lows::lows))]
 fn put(bank: &mut Bank<'_>, stack: &mut Vec<TermId>, step: Step<'_>) -> Result<(), RowFault>
     requires { HasStack bank.old stack.old.items }
     ensures stack { OnOk result (HasStack bank.new stack.new.items) }
     ensures grows { Grows bank.old bank.new }
 {
     let name = bank.name(text(step))?;
-    let node = node_of(bank, stack, step, name)?;
-    let term = bank.make(node)?;
+    let node = leaf(bank, stack, step, name)?;
+    let term = make(bank, node)?;
     stack.push(term)?;
     Ok(())
 }
 
-/// So many products of a type over a term.
-fn row(bank: &mut Bank<'_>, count: u32, kind: TermId, rest: TermId) -> Result<TermId, NoMemory>
-    requires kind { HasTerm bank.old kind }
-    requires rest { HasTerm bank.old rest }
-    ensures has { IfOk result (HasTerm bank.new) }
-    ensures grows { Grows bank.old bank.new }
-{
-    let binder = bank.name("")?;
-    let mut term = rest;
-    for _ in 0..count {
-        term = bank.make(Node::Prod(binder, kind, term))?;
-    }
-    Ok(term)
-}
-
-/// So many products over a term, each of the one before over itself: of n nodes come 2 n + 1 each time.
-fn doubled(bank: &mut Bank<'_>, count: u32, part: TermId) -> Result<TermId, NoMemory>
-    requires { HasTerm bank.old part }
-    ensures has { IfOk result (HasTerm bank.new) }
-    ensures grows { Grows bank.old bank.new }
-{
-    let binder = bank.name("")?;
-    let mut term = part;
-    for _ in 0..count {
-        term = bank.make(Node::Prod(binder, term, term))?;
-    }
-    Ok(term)
-}
-
-/// Products over the last two terms.
-fn put_row(bank: &mut Bank<'_>, stack: &mut Vec<TermId>, count: u32) -> Result<(), RowFault>
+/// One more term, of nodes around one.
+#[tactic(auto, using(crate::proofs::Lows::lows))]
+fn put_layers(
+    bank: &mut Bank<'_>,
+    stack: &mut Vec<TermId>,
+    shape: Shape,
+    count: u32,
+) -> Result<(), RowFault>
     requires { HasStack bank.old stack.old.items }
     ensures stack { OnOk result (HasStack bank.new stack.new.items) }
     ensures grows { Grows bank.old bank.new }
 {
-    let kind = pop(bank, stack)?;
-    let rest = pop(bank, stack)?;
-    let term = row(bank, count, kind, rest)?;
-    stack.push(term)?;
-    Ok(())
-}
-
-/// Products over the last term.
-fn put_doubled(bank: &mut Bank<'_>, stack: &mut Vec<TermId>, count: u32) -> Result<(), RowFault>
-    requires { HasStack bank.old stack.old.items }
-    ensures stack { OnOk result (HasStack bank.new stack.new.items) }
-    ensures grows { Grows bank.old bank.new }
-{
-    let part = pop(bank, stack)?;
-    let term = doubled(bank, count, part)?;
+    let (first, second, term) = pop_parts(bank, stack, shape)?;
+    let term = layers(bank, shape, count, first, second, term)?;
     stack.push(term)?;
     Ok(())
 }
@@ -181,8 +263,7 @@ fn take(bank: &mut Bank<'_>, stack: &mut Vec<TermId>, step: Step<'_>) -> Result<
     ensures grows { Grows bank.old bank.new }
 {
     match step {
-        Step::Prod(count) => put_row(bank, stack, count),
-        Step::Double(count) => put_doubled(bank, stack, count),
+        Step::Around(shape, count) => put_layers(bank, stack, shape, count),
         _ => put(bank, stack, step),
     }
 }
@@ -190,6 +271,7 @@ fn take(bank: &mut Bank<'_>, stack: &mut Vec<TermId>, step: Step<'_>) -> Result<
 /// The term of the steps.
 fn assemble(bank: &mut Bank<'_>, steps: &[Step<'_>]) -> Result<TermId, RowFault>
     ensures has { IfOk result (HasTerm bank.new) }
+    ensures low { IfOk result (IsLow bank.new) }
     ensures grows { Grows bank.old bank.new }
 {
     let mut stack = Vec::new(bank.allocator());
@@ -205,9 +287,10 @@ fn assemble(bank: &mut Bank<'_>, steps: &[Step<'_>]) -> Result<TermId, RowFault>
     Ok(term)
 }
 
-/// The term that is written so.
+/// The term that is written so. Its loose bound variables are below 1,000,000.
 pub fn build(bank: &mut Bank<'_>, text: &str) -> Result<TermId, RowFault>
     ensures has { IfOk result (HasTerm bank.new) }
+    ensures low { IfOk result (IsLow bank.new) }
     ensures grows { Grows bank.old bank.new }
 {
     let steps = steps_of(bank.allocator(), text)?;

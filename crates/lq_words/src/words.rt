@@ -3,134 +3,163 @@
 use lq_trees::Sort;
 use std::alloc::{AllocError, Global};
 
-/// A node whose parts are those that come behind it.
+/// What stands around a term, once or many times.
+#[derive(Clone, Copy)]
+pub enum Shape {
+    /// A product of the first part over the term.
+    Prod,
+    /// An abstraction of the first part over the term.
+    Lam,
+    /// A local definition: its value, its type, and the term as its rest.
+    Let,
+    /// The first part, applied to the term.
+    App,
+    /// The term, applied to the first part.
+    Spine,
+    /// A product of the term over the first part.
+    Nest,
+    /// A product of the term over itself.
+    Double,
+    /// The term, applied to itself.
+    Twice,
+}
+
+/// What a word stands for.
 #[derive(Clone, Copy)]
 pub enum Step<'a> {
+    /// A bound variable.
     Rel(u32),
+    /// A hypothesis.
     Var(&'a str),
+    /// A sort.
     Sort(Sort),
-    /// So many products of the first part over the second.
-    Prod(u32),
-    Lam,
-    /// A local definition: its value, its type and its rest.
-    Let,
-    App,
+    /// A constant.
     Const(&'a str),
+    /// A family.
     Ind(&'a str),
+    /// A constructor of a family.
     Ctor(&'a str, u32),
+    /// The eliminator of a family into a sort.
     Elim(&'a str, Sort),
-    /// A variable that waits for a value, without entries.
-    Evar(u32),
-    /// So many products over the part, each of the one before over itself.
-    Double(u32),
+    /// A variable that waits for a value, with so many entries, each of them the part.
+    Evar(u32, u32),
+    /// So many nodes around the part that comes last.
+    Around(Shape, u32),
     /// No such word.
     Unknown,
 }
 
-/// So many products, from what stands behind the arrow.
-fn products<'a>(count: &str) -> Step<'a> {
-    if count.is_empty() {
-        return Step::Prod(1);
-    }
-    match count.parse::<u32>() {
-        Ok(count) => Step::Prod(count),
-        Err(_) => Step::Unknown,
-    }
-}
+/// The words that begin with these are nodes around a term, as many as the number behind says.
+const SHAPES: [(&str, Shape); 8] = [
+    ("->", Shape::Prod),
+    ("fun^", Shape::Lam),
+    ("let^", Shape::Let),
+    ("@^", Shape::App),
+    ("@*", Shape::Spine),
+    ("<-", Shape::Nest),
+    ("2^", Shape::Double),
+    ("2@", Shape::Twice),
+];
 
-/// A sort, from the number of its level.
-fn level<'a>(level: &str) -> Step<'a> {
+/// The sort of that name.
+pub fn sort_of(word: &str) -> Option<Sort> {
+    if word == "Prop" {
+        return Some(Sort::Base);
+    }
+    let level = word.strip_prefix("Type.")?;
     match level.parse::<u8>() {
-        Ok(level) => Step::Sort(Sort::Level(level)),
-        Err(_) => Step::Unknown,
+        Ok(level) => Some(Sort::Level(level)),
+        Err(_) => None,
     }
 }
 
-/// A doubling, from its number.
-fn doubling<'a>(count: &str) -> Step<'a> {
-    match count.parse::<u32>() {
-        Ok(count) => Step::Double(count),
-        Err(_) => Step::Unknown,
+/// Nodes around a term, so many times.
+fn shaped<'a>(word: &str) -> Option<Step<'a>> {
+    for (prefix, shape) in SHAPES {
+        if let Some(count) = word.strip_prefix(prefix) {
+            return match count.parse::<u32>() {
+                Ok(count) => Some(Step::Around(shape, count)),
+                Err(_) => None,
+            };
+        }
+    }
+    None
+}
+
+/// A variable that waits for a value, from what follows its mark.
+fn waiting<'a>(text: &str) -> Option<Step<'a>> {
+    let (number, count) = match text.split_once('*') {
+        Some((number, count)) => (number, count),
+        None => (text, "0"),
+    };
+    match (number.parse::<u32>(), count.parse::<u32>()) {
+        (Ok(number), Ok(count)) => Some(Step::Evar(number, count)),
+        _ => None,
     }
 }
 
-/// An eliminator, from its family and its sort.
-fn eliminator<'a>(family: &'a str, sort: &str) -> Step<'a> {
-    if sort == "Prop" {
-        return Step::Elim(family, Sort::Base);
-    }
-    match sort.strip_prefix("Type.") {
-        Some(number) => match number.parse::<u8>() {
-            Ok(number) => Step::Elim(family, Sort::Level(number)),
-            Err(_) => Step::Unknown,
-        },
-        None => Step::Unknown,
-    }
-}
-
-/// A variable that waits for a value, from its number.
-fn waiting<'a>(number: &str) -> Step<'a> {
-    match number.parse::<u32>() {
-        Ok(number) => Step::Evar(number),
-        Err(_) => Step::Unknown,
-    }
-}
-
-/// A bound variable, or a family, its constructor or its eliminator.
-fn declared<'a>(word: &'a str) -> Step<'a> {
-    if let Ok(index) = word.parse::<u32>() {
-        return Step::Rel(index);
-    }
+/// A family, its constructor or its eliminator.
+fn declared<'a>(word: &'a str) -> Option<Step<'a>> {
     if let Some((family, sort)) = word.split_once('!') {
-        return eliminator(family, sort);
+        let sort = sort_of(sort)?;
+        return Some(Step::Elim(family, sort));
     }
     match word.split_once(':') {
         Some((family, number)) => match number.parse::<u32>() {
-            Ok(number) => Step::Ctor(family, number),
-            Err(_) => Step::Unknown,
+            Ok(number) => Some(Step::Ctor(family, number)),
+            Err(_) => None,
         },
-        None => Step::Ind(word),
+        None => Some(Step::Ind(word)),
     }
 }
 
-/// The step that a word stands for: `->` a product, `->9` nine of the first part over the second, `fun` an
-/// abstraction, `let` a local definition of its first part, `@` an application, `Prop` and `Type.0` sorts, `2^9`
-/// nine products of a part over itself, `'a` a hypothesis, `=a` a constant, `?0` a variable that waits for a value,
-/// `0` a bound variable, `a` a family, `a:0` its first constructor, `a!Prop` its eliminator into `Prop`.
-fn step_of<'a>(word: &'a str) -> Step<'a> {
+/// What a word without a mark of its own stands for: a sort, a bound variable, nodes around a term, or something of
+/// a family.
+fn plain<'a>(word: &'a str) -> Option<Step<'a>> {
+    if let Some(sort) = sort_of(word) {
+        return Some(Step::Sort(sort));
+    }
+    if let Ok(index) = word.parse::<u32>() {
+        return Some(Step::Rel(index));
+    }
+    match shaped(word) {
+        Some(step) => Some(step),
+        None => declared(word),
+    }
+}
+
+/// What a word stands for: `Prop` and `Type.0` sorts, `0` a bound variable, `'a` a hypothesis, `=a` a constant, `a` a
+/// family, `a:0` its first constructor, `a!Prop` its eliminator into `Prop`;
+/// `?0` a variable that waits for a value, `?0*9` one with nine entries, each of them the part. Around the last part
+/// stand: `->` a product of the first part over it, `fun` an abstraction, `let` a local definition of a value and its
+/// type, `@` the first part applied to it; and nine of each: `->9`, `fun^9`, `let^9`, `@^9`. `@*9` applies it to the
+/// first part nine times, `<-9` makes it nine times the domain over the first part, `2^9` nine times a product over
+/// itself, `2@9` applies it nine times to itself.
+fn step_of<'a>(word: &'a str) -> Option<Step<'a>> {
     match word {
-        "fun" => return Step::Lam,
-        "let" => return Step::Let,
-        "@" => return Step::App,
-        "Prop" => return Step::Sort(Sort::Base),
+        "->" => return Some(Step::Around(Shape::Prod, 1)),
+        "fun" => return Some(Step::Around(Shape::Lam, 1)),
+        "let" => return Some(Step::Around(Shape::Let, 1)),
+        "@" => return Some(Step::Around(Shape::App, 1)),
         _ => {}
     }
-    if let Some(count) = word.strip_prefix("->") {
-        return products(count);
-    }
-    if let Some(number) = word.strip_prefix("Type.") {
-        return level(number);
-    }
-    if let Some(count) = word.strip_prefix("2^") {
-        return doubling(count);
-    }
     if let Some(name) = word.strip_prefix('\'') {
-        return Step::Var(name);
+        return Some(Step::Var(name));
     }
     if let Some(name) = word.strip_prefix('=') {
-        return Step::Const(name);
+        return Some(Step::Const(name));
     }
-    if let Some(number) = word.strip_prefix('?') {
-        return waiting(number);
+    match word.strip_prefix('?') {
+        Some(text) => waiting(text),
+        None => plain(word),
     }
-    declared(word)
 }
 
-/// The steps that a text stands for.
+/// What the words of a text stand for.
 pub fn steps_of<'a>(alloc: Global, text: &'a str) -> Result<Vec<Step<'a>>, AllocError> {
     let mut steps = Vec::new(alloc);
     for word in text.split_whitespace() {
-        steps.push(step_of(word))?;
+        steps.push(step_of(word).unwrap_or(Step::Unknown))?;
     }
     Ok(steps)
 }

@@ -15,7 +15,7 @@ use lq_terms::{Bank, Hypothesis, NameId, NoMemory, Node, TermId};
 use lq_trees::Sort;
 
 /// Whether a name is among those.
-fn listed(bank: &Bank<'_>, names: &[NameId], name: NameId) -> bool
+pub fn listed(bank: &Bank<'_>, names: &[NameId], name: NameId) -> bool
     requires names { AllByRecursion (HasName bank.now) names.now }
     requires name { HasName bank.now name }
     ensures { result ≡ is_listed (map (text_of bank.now) names.now) (text_of bank.now name) }
@@ -28,12 +28,12 @@ fn listed(bank: &Bank<'_>, names: &[NameId], name: NameId) -> bool
     false
 }
 
-/// Whether a term has loose bound variables below `depth` alone, and hypotheses of those names alone; no variable
-/// of it that waits for a value has entries. It calls itself as deep as the term is.
-fn stands(bank: &Bank<'_>, names: &[NameId], depth: u64, term: TermId) -> bool
+/// Whether a term has loose bound variables below `depth` alone, hypotheses of those names alone, and variables that
+/// wait for a value of that number or a greater one alone, each with one entry. It calls itself as deep as the term is.
+pub fn stands(bank: &Bank<'_>, names: &[NameId], least: u64, depth: u64, term: TermId) -> bool
     requires names { AllByRecursion (HasName bank.now) names.now }
     requires term { HasTerm bank.now term }
-    ensures { IsTrue result → Stands (map (text_of bank.now) names.now) depth (tree_of bank.now term) }
+    ensures { IsTrue result → Stands (map (text_of bank.now) names.now) least depth (tree_of bank.now term) }
 {
     let Some(below) = depth.checked_add(1) else {
         return false;
@@ -46,27 +46,31 @@ fn stands(bank: &Bank<'_>, names: &[NameId], depth: u64, term: TermId) -> bool
         Node::Ind(_) => true,
         Node::Ctor(_, _) => true,
         Node::Elim(_, _) => true,
-        Node::Evar(_, entries) => entries.terms().is_empty(),
+        Node::Evar(number, entries) => match entries.terms() {
+            [entry] => u64::from(*number) >= least && stands(bank, names, least, depth, *entry),
+            _ => false,
+        },
         Node::Let(_, value, kind, rest) => {
-            stands(bank, names, depth, *value)
-                && stands(bank, names, depth, *kind)
-                && stands(bank, names, below, *rest)
+            stands(bank, names, least, depth, *value)
+                && stands(bank, names, least, depth, *kind)
+                && stands(bank, names, least, below, *rest)
         }
         Node::Prod(_, kind, rest) => {
-            stands(bank, names, depth, *kind) && stands(bank, names, below, *rest)
+            stands(bank, names, least, depth, *kind) && stands(bank, names, least, below, *rest)
         }
         Node::Lam(_, kind, body) => {
-            stands(bank, names, depth, *kind) && stands(bank, names, below, *body)
+            stands(bank, names, least, depth, *kind) && stands(bank, names, least, below, *body)
         }
         Node::App(function, argument) => {
-            stands(bank, names, depth, *function) && stands(bank, names, depth, *argument)
+            stands(bank, names, least, depth, *function)
+                && stands(bank, names, least, depth, *argument)
         }
     }
 }
 
-/// Whether a term has loose bound variables below `depth` alone; no variable of it that waits for a value has
-/// entries. It calls itself as deep as the term is.
-fn reaches(bank: &Bank<'_>, depth: u64, term: TermId) -> bool
+/// Whether a term has loose bound variables below `depth` alone, and no variable of it has more than one entry. It
+/// calls itself as deep as the term is.
+pub fn reaches(bank: &Bank<'_>, depth: u64, term: TermId) -> bool
     requires { HasTerm bank.now term }
     ensures { IsTrue result → Within depth (tree_of bank.now term) }
 {
@@ -81,7 +85,11 @@ fn reaches(bank: &Bank<'_>, depth: u64, term: TermId) -> bool
         Node::Ind(_) => true,
         Node::Ctor(_, _) => true,
         Node::Elim(_, _) => true,
-        Node::Evar(_, entries) => entries.terms().is_empty(),
+        Node::Evar(_, entries) => match entries.terms() {
+            [] => true,
+            [entry] => reaches(bank, depth, *entry),
+            _ => false,
+        },
         Node::Let(_, value, kind, rest) => {
             reaches(bank, depth, *value)
                 && reaches(bank, depth, *kind)
@@ -114,7 +122,7 @@ fn reads(bank: &Bank<'_>, names: &mut Vec<NameId>, context: &[Hypothesis]) -> Re
     for hypothesis in context {
         if hypothesis.body.is_some()
             || listed(bank, names, hypothesis.name)
-            || !stands(bank, names, 0, hypothesis.kind)
+            || !stands(bank, names, 0, 0, hypothesis.kind)
         {
             return Ok(false);
         }
@@ -130,7 +138,7 @@ fn all_stand(bank: &Bank<'_>, names: &[NameId], constructors: &[(NameId, TermId)
     ensures { IsTrue result → EachStands bank.now (map (text_of bank.now) names.now) constructors.now }
 {
     for constructor in constructors {
-        if !stands(bank, names, 0, constructor.1) {
+        if !stands(bank, names, 0, 0, constructor.1) {
             return false;
         }
     }
@@ -164,7 +172,7 @@ pub fn is_closed(bank: &Bank<'_>, term: TermId) -> bool
     requires { HasTerm bank.now term }
     ensures { IsTrue result → IsClosed bank.now 0 term }
 {
-    stands(bank, &[], 0, term)
+    stands(bank, &[], 0, 0, term)
 }
 
 /// Whether a family is as its callers promise.

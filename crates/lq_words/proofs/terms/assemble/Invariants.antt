@@ -1,6 +1,6 @@
 use Rattle.std.proofs.Common.{◌≤◌, length}
 use Rattle.lq_terms.specs.Terms.{Grows}
-use Rattle.lq_words.specs.Steps.{HasStack}
+use Rattle.lq_words.specs.Low.{HasStack}
 use Rattle.lq_words.proofs.terms.assemble.Given as goal
 
 -- the stack lies in the bank, which has grown

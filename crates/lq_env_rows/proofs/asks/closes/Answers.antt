@@ -1,4 +1,0 @@
-use Rattle.lq_env_rows.proofs.asks.closes.Goals as goal
-
-pub close_family-requires : goal.close_family-requires
-close_family-requires c = record { before = c.args.env.now; name = c.args.name; kind = c.args.arity; is = c.in-Ok.ensures.added }

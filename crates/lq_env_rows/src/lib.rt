@@ -1,7 +1,0 @@
-//! Rows of tests over the environment.
-#![tactic(auto)]
-
-#[cfg(test)]
-mod asks;
-#[cfg(test)]
-mod rows;

@@ -1,7 +1,0 @@
-use Rattle.std.proofs.Common.{drop}
-use Rattle.lq_kernel_rows.specs.Offers.{EachScoped}
-use Rattle.lq_kernel_rows.proofs.offered.all_scoped.Given as goal
-
--- all are scoped, if those are that are left
-abbrev pub invariant-loop-constructor : goal.invariant-loop-constructor
-invariant-loop-constructor l = EachScoped l.bank (drop l.constructor-index l.constructors) → EachScoped l.bank l.constructors

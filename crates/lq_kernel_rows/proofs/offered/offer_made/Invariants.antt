@@ -1,4 +1,0 @@
-use Rattle.lq_kernel_rows.proofs.offered.offer_made.Given as goal
-
-abbrev pub ghosts-answer : goal.ghosts-answer
-ghosts-answer a = record { name = a.blank.name; parts = a.blank.parts }

@@ -1,0 +1,61 @@
+//! Rows over the bank, the environment, reduction and the kernel: each line of standard input is one, and is written
+//! again with its answer, and with its price in ticks where it has one. A line that begins with `#`, and an empty one,
+//! is written as it stands.
+//!
+//! A section begins with a line `start`: the bank and the environment are empty, and there is no hypothesis. A line
+//! `start on a thread` is the same on the stack of another thread. `lq_words` says how terms and families are written.
+//! `row.rt` has what a line may ask, `bank_rows.rt`, `env_rows.rt`, `declaring.rt` and `terms_asked.rt` what it answers.
+#![tactic(auto)]
+
+mod bank_rows;
+mod declaring;
+mod env_rows;
+mod hypotheses;
+mod offers;
+mod priced;
+mod row;
+mod section;
+mod terms_asked;
+mod told;
+mod values;
+
+use crate::section::answers;
+use lq_words::RowFault;
+use std::alloc::Global;
+use std::thread::Threads;
+use std::{io, thread};
+
+/// The line that begins a section on another thread.
+const THREAD: &str = "start on a thread";
+
+/// Writes the answers of a section.
+fn show(rt: &(impl Print + Alloc<A = Global>), told: Result<String, RowFault>) -> io::Result<()> {
+    match told {
+        Ok(text) => print!(rt; "{text}"),
+        Err(fault) => println!(rt; "not done: {fault:?}"),
+    }
+}
+
+/// Runs a section, on a thread of its own where its first line says so.
+fn run(rt: &(impl Print + Threads + Alloc<A = Global>), section: String) -> io::Result<()> {
+    let alloc = rt.alloc();
+    if section.starts_with(THREAD) {
+        let other = thread::spawn(rt, move || answers(alloc, &section))?;
+        return show(rt, other.join(rt));
+    }
+    show(rt, answers(alloc, &section))
+}
+
+fn main(rt: HostRuntime) -> io::Result<()> {
+    let mut section = String::new(rt.alloc());
+    for line in rt.lines(rt.alloc()) {
+        let line = line?;
+        if line.starts_with("start") {
+            run(&rt, section)?;
+            section = String::new(rt.alloc());
+        }
+        section.push_str(&line)?;
+        section.push('\n')?;
+    }
+    run(&rt, section)
+}

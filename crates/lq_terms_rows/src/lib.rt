@@ -1,5 +1,0 @@
-//! Rows of tests over the bank of terms.
-#![tactic(auto)]
-
-#[cfg(test)]
-mod terms;
