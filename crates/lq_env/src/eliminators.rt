@@ -84,7 +84,8 @@ fn apply_moved(
     requires function { HasTerm bank.old function }
     requires term { HasTerm bank.old term }
     requires index { highest (fill (variables_at inside places.now) 0 (tree_of bank.old term)) ≤ last_index }
-    ensures made { IfOk result (λ t. IsTerm bank.new t (Tree.App (tree_of bank.old function) (fill (variables_at inside places.now) 0 (tree_of bank.old term)))) }
+    ensures made { IfOk result (λ t. IsTerm bank.new t (Tree.App (tree_of bank.old function)
+        (fill (variables_at inside places.now) 0 (tree_of bank.old term)))) }
     ensures grows { Grows bank.old bank.new }
 {
     let moved = spread(bank, term, places, inside)?;
@@ -105,7 +106,8 @@ pub(crate) fn apply_each(
     requires small { AreSmall bank.old terms.now }
     requires places { AreBelow inside places.now }
     requires few { inside ≤ 1000001 }
-    ensures made { IfOk result (λ t. IsTerm bank.new t (apply (tree_of bank.old function) (map (fill (variables_at inside places.now) 0) (map (tree_of bank.old) terms.now)))) }
+    ensures made { IfOk result (λ t. IsTerm bank.new t (apply (tree_of bank.old function)
+        (map (fill (variables_at inside places.now) 0) (map (tree_of bank.old) terms.now)))) }
     ensures grows { Grows bank.old bank.new }
 {
     let mut whole = function;
@@ -161,7 +163,8 @@ fn at_scrutinee(
 ) -> Result<TermId, NoMemory>
     requires domain { HasTerm bank.old domain }
     requires context { HasContext bank.old context.now }
-    ensures made { IfOk result (λ t. IsTerm bank.new t (Tree.Prod (codes "z") (tree_of bank.old domain) (Tree.App (apply (Tree.Rel predicate) (variables (context_of bank.old context.now))) (Tree.Rel 0)))) }
+    ensures made { IfOk result (λ t. IsTerm bank.new t (Tree.Prod (codes "z") (tree_of bank.old domain)
+        (Tree.App (apply (Tree.Rel predicate) (variables (context_of bank.old context.now))) (Tree.Rel 0)))) }
     ensures grows { Grows bank.old bank.new }
 {
     let head = bank.make(Node::Rel(predicate))?;

@@ -37,9 +37,11 @@ fn add_premise(
     requires within { Within 0 (tree_of bank.old kind) }
     requires small { size (tree_of bank.old kind) ≤ 1000000 }
     requires number { number ≤ 1000000 }
-    ensures binders { OnOk result (binders_of bank.new draft.new.binders.items ≡ binders_of bank.old draft.old.binders.items ++ ([], premise (family_of bank.old family.now) number (Tree.Rel number) [] (tree_of bank.old kind)) ∷ []) }
+    ensures binders { OnOk result (binders_of bank.new draft.new.binders.items ≡ binders_of bank.old draft.old.binders.items ++
+        ([], premise (family_of bank.old family.now) number (Tree.Rel number) [] (tree_of bank.old kind)) ∷ []) }
     ensures draft { OnOk result (IsDraft bank.new draft.new) }
-    ensures refused { IfErr result (λ e. Overflows e (span (binders_of bank.old draft.old.binders.items) + 1 + size (premise (family_of bank.old family.now) number (Tree.Rel number) [] (tree_of bank.old kind)))) }
+    ensures refused { IfErr result (λ e. Overflows e (span (binders_of bank.old draft.old.binders.items) + 1 + size
+        (premise (family_of bank.old family.now) number (Tree.Rel number) [] (tree_of bank.old kind)))) }
     ensures grows { Grows bank.old bank.new }
 {
     match premise(bank, family, number, kind) {
@@ -66,9 +68,11 @@ fn add_premises(
     requires stored { AreWithinLimits (family_of bank.old family.now) }
     requires draft { IsDraft bank.old draft.old }
     requires unnamed { IsName bank.old unnamed [] }
-    ensures binders { OnOk result (binders_of bank.new draft.new.binders.items ≡ binders_of bank.old draft.old.binders.items ++ premise_binders (family_of bank.old family.now) 0 (family_of bank.old family.now).constructors) }
+    ensures binders { OnOk result (binders_of bank.new draft.new.binders.items ≡ binders_of bank.old draft.old.binders.items ++ premise_binders
+        (family_of bank.old family.now) 0 (family_of bank.old family.now).constructors) }
     ensures draft { OnOk result (IsDraft bank.new draft.new) }
-    ensures refused { IfErr result (λ e. Overflows e (span (binders_of bank.old draft.old.binders.items ++ premise_binders (family_of bank.old family.now) 0 (family_of bank.old family.now).constructors))) }
+    ensures refused { IfErr result (λ e. Overflows e (span (binders_of bank.old draft.old.binders.items ++ premise_binders (family_of bank.old family.now) 0
+        (family_of bank.old family.now).constructors))) }
     ensures grows { Grows bank.old bank.new }
 {
     let constructors = family.constructors.constructors();
@@ -86,9 +90,11 @@ fn with_premises(bank: &mut Bank<'_>, family: &Family, predicate: TermId) -> Res
     requires family { IsFamily bank.old family.now }
     requires stored { AreWithinLimits (family_of bank.old family.now) }
     requires predicate { HasTerm bank.old predicate }
-    ensures binders { IfOk result (λ d. binders_of bank.new d.binders.items ≡ (codes "Q", tree_of bank.old predicate) ∷ premise_binders (family_of bank.old family.now) 0 (family_of bank.old family.now).constructors) }
+    ensures binders { IfOk result (λ d. binders_of bank.new d.binders.items ≡ (codes "Q", tree_of bank.old predicate) ∷ premise_binders
+        (family_of bank.old family.now) 0 (family_of bank.old family.now).constructors) }
     ensures draft { IfOk result (IsDraft bank.new) }
-    ensures refused { IfErr result (λ e. Overflows e (span ((codes "Q", tree_of bank.old predicate) ∷ premise_binders (family_of bank.old family.now) 0 (family_of bank.old family.now).constructors))) }
+    ensures refused { IfErr result (λ e. Overflows e (span ((codes "Q", tree_of bank.old predicate) ∷ premise_binders (family_of bank.old family.now) 0
+        (family_of bank.old family.now).constructors))) }
     ensures grows { Grows bank.old bank.new }
 {
     let mut draft = Draft {
@@ -117,7 +123,8 @@ fn concluded(bank: &mut Bank<'_>, family: &Family, draft: &Draft) -> Result<Term
     requires draft { IsDraft bank.old draft.now }
     requires constructors { length family.now.constructors ≤ 1000000 }
     requires indices { length family.now.indices ≤ 1000000 }
-    ensures answer { Builds bank.new result (telescope (binders_of bank.old draft.now.binders.items) (conclusion (family_of bank.old family.now) (Tree.Rel (length family.now.constructors)))) }
+    ensures answer { Builds bank.new result (telescope (binders_of bank.old draft.now.binders.items)
+        (conclusion (family_of bank.old family.now) (Tree.Rel (length family.now.constructors)))) }
     ensures grows { Grows bank.old bank.new }
 {
     let end = match conclude(bank, family) {

@@ -4,10 +4,12 @@ ghost use Rattle.std.specs.Prelude.{◌≡◌, ◌<◌, ◌||◌, is_some, false
 ghost use Rattle.std.specs.List.{AllByRecursion};
 ghost use Rattle.lq_trees.specs.Tree.{Name};
 ghost use Rattle.lq_terms.specs.Terms.{HasName, IsName, Grows, text_of, tree_of};
-ghost use Rattle.lq_calculus.specs.Declarations.{sorts, permits, eliminator_name, first_taken, declared_names, names_of, constructors_fault, family_fault, add_inductive};
+ghost use Rattle.lq_calculus.specs.Declarations.{sorts, permits, eliminator_name, first_taken, declared_names};
+ghost use Rattle.lq_calculus.specs.Declarations.{names_of, constructors_fault, family_fault, add_inductive};
 ghost use Rattle.lq_env.specs.Families.{IsSort, HasFamily, IsFamily, family_of, Refuses};
 ghost use Rattle.lq_env.specs.Environments.{declared_of, IsEnv, env_of, Adds, Extends};
-ghost use Rattle.lq_env.specs.Inductive.{Passes, HasNames, texts_of, firsts, among, AreEliminatorNames, AreFree, IsReady, constructors_declared, eliminators_declared, family_declared};
+ghost use Rattle.lq_env.specs.Inductive.{Passes, HasNames, texts_of, firsts, among, AreEliminatorNames, AreFree};
+ghost use Rattle.lq_env.specs.Inductive.{IsReady, constructors_declared, eliminators_declared, family_declared};
 
 use crate::environment::{Declared, Entry, Env, Sorts};
 use crate::family::{EnvFault, Family};

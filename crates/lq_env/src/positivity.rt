@@ -128,7 +128,8 @@ fn argument_fault(
     requires family { HasFamily bank.now family.now }
     requires constructor { HasName bank.now constructor }
     requires kind { HasTerm bank.now kind }
-    ensures { IfOk result (λ o. Finds bank.now o (argument_fault (family_of bank.now family.now) (text_of bank.now constructor) number (tree_of bank.now kind))) }
+    ensures { IfOk result (λ o. Finds bank.now o (argument_fault (family_of bank.now family.now) (text_of bank.now constructor) number
+        (tree_of bank.now kind))) }
 {
     if !holds(bank, family.name, kind)? {
         return Ok(None);

@@ -69,7 +69,8 @@ fn add_argument(
     requires kind { HasTerm bank.old kind }
     requires within { Within (length draft.old.places.items) (tree_of bank.old kind) }
     requires small { size (tree_of bank.old kind) ≤ 1000000 }
-    ensures binders { OnOk result (binders_of bank.new draft.new.binders.items ≡ binders_of bank.old draft.old.binders.items ++ (text_of bank.old name, fill (variables_at (length draft.old.binders.items) draft.old.places.items) 0 (tree_of bank.old kind)) ∷ []) }
+    ensures binders { OnOk result (binders_of bank.new draft.new.binders.items ≡ binders_of bank.old draft.old.binders.items ++
+        (text_of bank.old name, fill (variables_at (length draft.old.binders.items) draft.old.places.items) 0 (tree_of bank.old kind)) ∷ []) }
     ensures places { OnOk result (draft.new.places.items ≡ draft.old.places.items ++ length draft.old.binders.items ∷ []) }
     ensures draft { OnOk result (IsDraft bank.new draft.new) }
     ensures refused { IfErr result (λ e. Overflows e (span (binders_of bank.old draft.old.binders.items) + 1 + size (tree_of bank.old kind))) }
@@ -99,7 +100,8 @@ fn predicate_at(
     requires small { AreSmall bank.old terms.now }
     requires places { AreBelow inside places.now }
     requires few { inside ≤ 1000001 }
-    ensures made { IfOk result (λ t. IsTerm bank.new t (apply (Tree.Rel predicate) (map (fill (variables_at inside places.now) 0) (map (tree_of bank.old) terms.now)))) }
+    ensures made { IfOk result (λ t. IsTerm bank.new t (apply (Tree.Rel predicate)
+        (map (fill (variables_at inside places.now) 0) (map (tree_of bank.old) terms.now)))) }
     ensures grows { Grows bank.old bank.new }
 {
     let head = bank.make(Node::Rel(predicate))?;
@@ -136,7 +138,8 @@ fn constructed(
     inside: u32,
 ) -> Result<TermId, NoMemory>
     requires { HasFamily bank.old family.now }
-    ensures made { IfOk result (λ t. IsTerm bank.new t (apply (apply (Tree.Ctor (family_of bank.old family.now).name number) (variables (family_of bank.old family.now).parameters)) (map (λ p. Tree.Rel (inside - suc p)) places.now))) }
+    ensures made { IfOk result (λ t. IsTerm bank.new t (apply (apply (Tree.Ctor (family_of bank.old family.now).name number)
+        (variables (family_of bank.old family.now).parameters)) (map (λ p. Tree.Rel (inside - suc p)) places.now))) }
     ensures grows { Grows bank.old bank.new }
 {
     let head = bank.make(Node::Ctor(family.name, number))?;
@@ -162,10 +165,12 @@ fn add_recursive(
     requires indices { AllByRecursion (HasTerm bank.old) indices.now }
     requires indices_within { AreWithin bank.old (length draft.old.places.items) indices.now }
     requires indices_small { AreSmall bank.old indices.now }
-    ensures binders { OnOk result (binders_of bank.new draft.new.binders.items ≡ with_recursive number (binders_of bank.old draft.old.binders.items) draft.old.places.items (text_of bank.old name) (tree_of bank.old kind) (map (tree_of bank.old) indices.now)) }
+    ensures binders { OnOk result (binders_of bank.new draft.new.binders.items ≡ with_recursive number (binders_of bank.old draft.old.binders.items)
+        draft.old.places.items (text_of bank.old name) (tree_of bank.old kind) (map (tree_of bank.old) indices.now)) }
     ensures places { OnOk result (draft.new.places.items ≡ draft.old.places.items ++ length draft.old.binders.items ∷ []) }
     ensures draft { OnOk result (IsDraft bank.new draft.new) }
-    ensures refused { IfErr result (λ e. Overflows e (span (with_recursive number (binders_of bank.old draft.old.binders.items) draft.old.places.items (text_of bank.old name) (tree_of bank.old kind) (map (tree_of bank.old) indices.now)))) }
+    ensures refused { IfErr result (λ e. Overflows e (span (with_recursive number (binders_of bank.old draft.old.binders.items) draft.old.places.items
+        (text_of bank.old name) (tree_of bank.old kind) (map (tree_of bank.old) indices.now)))) }
     ensures grows { Grows bank.old bank.new }
 {
     let inside = draft.binders.len() as u32 + 1;
@@ -200,10 +205,12 @@ fn add(
     requires within { Within (length draft.old.places.items) (tree_of bank.old kind) }
     requires small { size (tree_of bank.old kind) ≤ 1000000 }
     requires number { number ≤ 1000000 }
-    ensures advanced { OnOk result (Advances (family_of bank.old family.now) number (binders_of bank.old draft.old.binders.items) draft.old.places.items (text_of bank.old name) (tree_of bank.old kind) (binders_of bank.new draft.new.binders.items) draft.new.places.items) }
+    ensures advanced { OnOk result (Advances (family_of bank.old family.now) number (binders_of bank.old draft.old.binders.items) draft.old.places.items
+        (text_of bank.old name) (tree_of bank.old kind) (binders_of bank.new draft.new.binders.items) draft.new.places.items) }
     ensures places { OnOk result (draft.new.places.items ≡ draft.old.places.items ++ length draft.old.binders.items ∷ []) }
     ensures draft { OnOk result (IsDraft bank.new draft.new) }
-    ensures refused { IfErr result (RefusesAt (family_of bank.old family.now) number (binders_of bank.old draft.old.binders.items) draft.old.places.items (text_of bank.old name) (tree_of bank.old kind)) }
+    ensures refused { IfErr result (RefusesAt (family_of bank.old family.now) number (binders_of bank.old draft.old.binders.items) draft.old.places.items
+        (text_of bank.old name) (tree_of bank.old kind)) }
     ensures grows { Grows bank.old bank.new }
 {
     let Some(indices) = own(bank, family, kind)? else {
@@ -226,7 +233,9 @@ fn finish(
     requires within { Within (length draft.now.places.items) (tree_of bank.old rest) }
     requires small { size (tree_of bank.old rest) ≤ 1000000 }
     requires number { number ≤ 1000000 }
-    ensures made { IfOk result (λ t. IsTerm bank.new t (end_by (family_of bank.old family.now) number (Tree.Rel (number + length draft.now.binders.items)) (variables_at (length draft.now.binders.items) draft.now.places.items) (tree_of bank.old rest) (own (family_of bank.old family.now) (tree_of bank.old rest)))) }
+    ensures made { IfOk result (λ t. IsTerm bank.new t (end_by (family_of bank.old family.now) number (Tree.Rel (number + length draft.now.binders.items))
+        (variables_at (length draft.now.binders.items) draft.now.places.items) (tree_of bank.old rest)
+        (own (family_of bank.old family.now) (tree_of bank.old rest)))) }
     ensures grows { Grows bank.old bank.new }
 {
     let Some(indices) = own(bank, family, rest)? else {

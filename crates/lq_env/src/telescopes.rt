@@ -117,7 +117,8 @@ pub(crate) fn products(
     requires apart { AreApart (context_of bank.old context.now) }
     requires end { HasTerm bank.old end }
     requires within { Within many (tree_of bank.old end) }
-    ensures answer { (tree : Tree) → tree_of bank.old end ≡ lift (length context.now) 0 tree → Builds bank.new result (products (context_of bank.old context.now) tree) }
+    ensures answer { (tree : Tree) → tree_of bank.old end ≡ lift (length context.now) 0 tree
+        → Builds bank.new result (products (context_of bank.old context.now) tree) }
     ensures grows { Grows bank.old bank.new }
 {
     if context_nodes(bank, context) + measure(bank, end).size > MOST_NODES {
