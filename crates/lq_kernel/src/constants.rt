@@ -53,7 +53,13 @@ fn check_constant<L: Ledger>(
     requires kind { IsScoped work.old.bank.now 0 kind }
     requires body { IsScoped work.old.bank.now 0 body }
     requires env { IsEnv work.old.bank.now env.now }
-    ensures answer { (opaque : Bool) → Accepts work.new.bank.now result (env_of work.old.bank.now env.now ++ (text_of work.old.bank.now name, constant (tree_of work.old.bank.now kind) (tree_of work.old.bank.now body) opaque) ∷ []) (λ n. declare_constant (env_of work.old.bank.now env.now) n (text_of work.old.bank.now name) (tree_of work.old.bank.now kind) (tree_of work.old.bank.now body) opaque) work.old.ticks.now.left work.new.ticks.now.left }
+    ensures answer { (opaque : Bool) → Accepts work.new.bank.now result
+        (env_of work.old.bank.now env.now ++ (
+          text_of work.old.bank.now name,
+          constant (tree_of work.old.bank.now kind) (tree_of work.old.bank.now body)
+              opaque,
+        ) ∷ []) (λ n. declare_constant (env_of work.old.bank.now env.now) n (text_of work.old.bank.now name) (tree_of work.old.bank.now kind)
+        (tree_of work.old.bank.now body) opaque) work.old.ticks.now.left work.new.ticks.now.left }
     ensures closed { OnOk result (IsClosed work.old.bank.now 0 kind × IsClosed work.old.bank.now 0 body) }
     ensures dropped { OnOk result (work.new.bank.now.nodes ≡ work.old.bank.now.nodes) }
     ensures new { OnOk result (is_listed (names_of (env_of work.old.bank.now env.now)) (text_of work.old.bank.now name) ≡ false) }
@@ -89,7 +95,8 @@ pub(crate) fn declare_constant<L: Ledger>(
     requires kind { IsScoped work.old.bank.now 0 kind }
     requires body { IsScoped work.old.bank.now 0 body }
     requires env { IsEnv work.old.bank.now env.old }
-    ensures answer { Declares work.new.bank.now result env.new (λ n. declare_constant (env_of work.old.bank.now env.old) n (text_of work.old.bank.now name) (tree_of work.old.bank.now kind) (tree_of work.old.bank.now body) opaque) work.old.ticks.now.left work.new.ticks.now.left }
+    ensures answer { Declares work.new.bank.now result env.new (λ n. declare_constant (env_of work.old.bank.now env.old) n (text_of work.old.bank.now name)
+        (tree_of work.old.bank.now kind) (tree_of work.old.bank.now body) opaque) work.old.ticks.now.left work.new.ticks.now.left }
     ensures env { IsEnv work.new.bank.now env.new }
     ensures extends { OnOk result (Extends env.old env.new) }
     ensures dropped { OnOk result (work.new.bank.now.nodes ≡ work.old.bank.now.nodes) }

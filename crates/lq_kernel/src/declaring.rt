@@ -53,7 +53,8 @@ fn check_inside<L: Ledger>(
     requires offered { IsOffered work.old.bank.now family.now }
     requires family { IsFamily work.old.bank.now family.now }
     requires new { first_taken (names_of (env_of work.old.bank.now env.old)) (declared_names (family_of work.old.bank.now family.now)) ≡ None }
-    ensures answer { FindsSmall work.new.bank.now result (constructors_work (env_of work.old.bank.now env.old) (family_of work.old.bank.now family.now)) work.old.ticks.now.left work.new.ticks.now.left }
+    ensures answer { FindsSmall work.new.bank.now result (constructors_work (env_of work.old.bank.now env.old) (family_of work.old.bank.now family.now))
+        work.old.ticks.now.left work.new.ticks.now.left }
     ensures kept { env.new ≡ env.old }
     ensures same_bank { work.new.bank.ghost_name ≡ work.old.bank.ghost_name }
     ensures same_ticks { work.new.ticks.ghost_name ≡ work.old.ticks.ghost_name }
@@ -84,7 +85,8 @@ fn check_family<L: Ledger>(
 ) -> Result<bool, KernelFault>
     requires env { IsEnv work.old.bank.now env.old }
     requires family { IsOffered work.old.bank.now family.now }
-    ensures answer { ChecksFamily work.new.bank.now result (env_of work.old.bank.now env.old) (family_of work.old.bank.now family.now) work.old.ticks.now.left work.new.ticks.now.left }
+    ensures answer { ChecksFamily work.new.bank.now result (env_of work.old.bank.now env.old) (family_of work.old.bank.now family.now) work.old.ticks.now.left
+        work.new.ticks.now.left }
     ensures new { OnOk result (first_taken (names_of (env_of work.old.bank.now env.old)) (declared_names (family_of work.old.bank.now family.now)) ≡ None) }
     ensures family { OnOk result (IsFamily work.old.bank.now family.now) }
     ensures dropped { OnOk result (work.new.bank.now.nodes ≡ work.old.bank.now.nodes) }
@@ -144,7 +146,8 @@ fn add_family(
 ) -> Result<(), KernelFault>
     requires env { IsEnv bank.old env.old }
     requires family { IsFamily bank.old family }
-    ensures answer { (found : List (List Universe)) → small ≡ is_small found → AddsFamily bank.new result env.new (add_inductive (env_of bank.old env.old) (family_of bank.old family) (permitted family.sort found)) }
+    ensures answer { (found : List (List Universe)) → small ≡ is_small found
+        → AddsFamily bank.new result env.new (add_inductive (env_of bank.old env.old) (family_of bank.old family) (permitted family.sort found)) }
     ensures extends { OnOk result (Extends env.old env.new) }
     ensures kept { OnErr result (env.new ≡ env.old) }
     ensures grows { Grows bank.old bank.new }
@@ -172,7 +175,8 @@ pub(crate) fn declare_family<L: Ledger>(
 ) -> Result<(), KernelFault>
     requires env { IsEnv work.old.bank.now env.old }
     requires family { IsOffered work.old.bank.now family }
-    ensures answer { Declares work.new.bank.now result env.new (λ n. declare_family (env_of work.old.bank.now env.old) n (family_of work.old.bank.now family)) work.old.ticks.now.left work.new.ticks.now.left }
+    ensures answer { Declares work.new.bank.now result env.new (λ n. declare_family (env_of work.old.bank.now env.old) n (family_of work.old.bank.now family))
+        work.old.ticks.now.left work.new.ticks.now.left }
     ensures env { IsEnv work.new.bank.now env.new }
     ensures extends { OnOk result (Extends env.old env.new) }
     ensures kept { OnErr result (env.new ≡ env.old) }

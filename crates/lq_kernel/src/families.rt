@@ -81,7 +81,8 @@ pub(crate) fn sorts_of<L: Ledger>(
 ) -> Result<(), KernelFault>
     requires env { IsEnv work.old.bank.now env.now }
     requires context { IsContext work.old.bank.now telescope.now }
-    ensures answer { Checks work.new.bank.now result (λ n. sorts_of (env_of work.old.bank.now env.now) n [] (context_of work.old.bank.now telescope.now)) work.old.ticks.now.left work.new.ticks.now.left }
+    ensures answer { Checks work.new.bank.now result (λ n. sorts_of (env_of work.old.bank.now env.now) n [] (context_of work.old.bank.now telescope.now))
+        work.old.ticks.now.left work.new.ticks.now.left }
     ensures same_bank { work.new.bank.ghost_name ≡ work.old.bank.ghost_name }
     ensures same_ticks { work.new.ticks.ghost_name ≡ work.old.ticks.ghost_name }
     ensures grows { Grows work.old.bank.now work.new.bank.now }
@@ -110,9 +111,11 @@ fn check_constructor<L: Ledger>(
     requires kind { IsScoped work.old.bank.now 0 kind }
     requires env { IsEnv work.old.bank.now env.now }
     requires context { IsContext work.old.bank.now family.now.parameters }
-    ensures answer { (E : Environment) (G : TreeContext) (x : Name) (T : Tree) → env_of work.old.bank.now env.now ≡ E → context_of work.old.bank.now family.now.parameters ≡ G → text_of work.old.bank.now name ≡ x → tree_of work.old.bank.now kind ≡ T
+    ensures answer { (E : Environment) (G : TreeContext) (x : Name) (T : Tree) → env_of work.old.bank.now env.now ≡ E
+        → context_of work.old.bank.now family.now.parameters ≡ G → text_of work.old.bank.now name ≡ x → tree_of work.old.bank.now kind ≡ T
         → IfOk result (λ row. ComesTo (λ n. constructor_work E n G family.now.sort x T) work.old.ticks.now.left (done row.items work.new.ticks.now.left)) }
-    ensures refused { (E : Environment) (G : TreeContext) (x : Name) (T : Tree) → env_of work.old.bank.now env.now ≡ E → context_of work.old.bank.now family.now.parameters ≡ G → text_of work.old.bank.now name ≡ x → tree_of work.old.bank.now kind ≡ T
+    ensures refused { (E : Environment) (G : TreeContext) (x : Name) (T : Tree) → env_of work.old.bank.now env.now ≡ E
+        → context_of work.old.bank.now family.now.parameters ≡ G → text_of work.old.bank.now name ≡ x → tree_of work.old.bank.now kind ≡ T
         → IfErr result (λ e. Refuses work.new.bank.now e (λ n. constructor_work E n G family.now.sort x T) work.old.ticks.now.left work.new.ticks.now.left) }
     ensures same_bank { work.new.bank.ghost_name ≡ work.old.bank.ghost_name }
     ensures same_ticks { work.new.ticks.ghost_name ≡ work.old.ticks.ghost_name }
@@ -148,7 +151,8 @@ pub(crate) fn check_constructors<L: Ledger>(
 ) -> Result<bool, KernelFault>
     requires family { IsOffered work.old.bank.now family.now }
     requires env { IsEnv work.old.bank.now env.now }
-    ensures answer { FindsSmall work.new.bank.now result (λ n. check_constructors (env_of work.old.bank.now env.now) n (family_of work.old.bank.now family.now) (constructors_of work.old.bank.now family.now.constructors)) work.old.ticks.now.left work.new.ticks.now.left }
+    ensures answer { FindsSmall work.new.bank.now result (λ n. check_constructors (env_of work.old.bank.now env.now) n
+        (family_of work.old.bank.now family.now) (constructors_of work.old.bank.now family.now.constructors)) work.old.ticks.now.left work.new.ticks.now.left }
     ensures same_bank { work.new.bank.ghost_name ≡ work.old.bank.ghost_name }
     ensures same_ticks { work.new.ticks.ghost_name ≡ work.old.ticks.ghost_name }
     ensures grows { Grows work.old.bank.now work.new.bank.now }

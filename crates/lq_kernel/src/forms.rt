@@ -45,7 +45,8 @@ pub(crate) fn head_form<L: Ledger>(
     requires term { IsScoped work.old.bank.now 0 term }
     requires env { IsEnv work.old.bank.now env.now }
     requires context { IsContext work.old.bank.now context.now }
-    ensures answer { (E : Environment) (G : TreeContext) (T : Tree) → env_of work.old.bank.now env.now ≡ E → context_of work.old.bank.now context.now ≡ G → tree_of work.old.bank.now term ≡ T
+    ensures answer { (E : Environment) (G : TreeContext) (T : Tree) → env_of work.old.bank.now env.now ≡ E → context_of work.old.bank.now context.now ≡ G
+        → tree_of work.old.bank.now term ≡ T
         → Types work.new.bank.now result (λ n. needed_form E n G T) work.old.ticks.now.left work.new.ticks.now.left }
     ensures same_bank { work.new.bank.ghost_name ≡ work.old.bank.ghost_name }
     ensures same_ticks { work.new.ticks.ghost_name ≡ work.old.ticks.ghost_name }
@@ -74,7 +75,8 @@ fn compares<L: Ledger>(
     requires wanted { IsScoped work.old.bank.now 0 wanted }
     requires env { IsEnv work.old.bank.now env.now }
     requires context { IsContext work.old.bank.now context.now }
-    ensures answer { (E : Environment) (G : TreeContext) (T U : Tree) → env_of work.old.bank.now env.now ≡ E → context_of work.old.bank.now context.now ≡ G → tree_of work.old.bank.now found ≡ T → tree_of work.old.bank.now wanted ≡ U
+    ensures answer { (E : Environment) (G : TreeContext) (T U : Tree) → env_of work.old.bank.now env.now ≡ E → context_of work.old.bank.now context.now ≡ G
+        → tree_of work.old.bank.now found ≡ T → tree_of work.old.bank.now wanted ≡ U
         → Answers work.new.bank.now result (λ n. conv (rules_of E) G n T U) work.old.ticks.now.left work.new.ticks.now.left }
     ensures same_bank { work.new.bank.ghost_name ≡ work.old.bank.ghost_name }
     ensures same_ticks { work.new.ticks.ghost_name ≡ work.old.ticks.ghost_name }
@@ -103,7 +105,8 @@ pub(crate) fn matching<L: Ledger>(
     requires wanted { IsScoped work.old.bank.now 0 wanted }
     requires env { IsEnv work.old.bank.now env.now }
     requires context { IsContext work.old.bank.now context.now }
-    ensures answer { (E : Environment) (G : TreeContext) (T U : Tree) → env_of work.old.bank.now env.now ≡ E → context_of work.old.bank.now context.now ≡ G → tree_of work.old.bank.now found ≡ T → tree_of work.old.bank.now wanted ≡ U
+    ensures answer { (E : Environment) (G : TreeContext) (T U : Tree) → env_of work.old.bank.now env.now ≡ E → context_of work.old.bank.now context.now ≡ G
+        → tree_of work.old.bank.now found ≡ T → tree_of work.old.bank.now wanted ≡ U
         → Checks work.new.bank.now result (λ n. matching E n G T U) work.old.ticks.now.left work.new.ticks.now.left }
     ensures same_bank { work.new.bank.ghost_name ≡ work.old.bank.ghost_name }
     ensures same_ticks { work.new.ticks.ghost_name ≡ work.old.ticks.ghost_name }
@@ -165,7 +168,8 @@ pub(crate) fn function_kind(
     requires name { HasName bank.old name }
     requires body { IsScoped bank.old 0 body }
     requires fits { fit (tree_of bank.old body) ≡ Limit.Fits }
-    ensures answer { (x y : Name) (A B : Tree) → text_of bank.old binder ≡ x → text_of bank.old name ≡ y → tree_of bank.old kind ≡ A → tree_of bank.old body ≡ B → Fitted bank.new result (Tree.Prod x A (close y B)) }
+    ensures answer { (x y : Name) (A B : Tree) → text_of bank.old binder ≡ x → text_of bank.old name ≡ y → tree_of bank.old kind ≡ A
+        → tree_of bank.old body ≡ B → Fitted bank.new result (Tree.Prod x A (close y B)) }
     ensures grows { Grows bank.old bank.new }
 {
     let rest = close(bank, body, name)?;
@@ -184,7 +188,8 @@ pub(crate) fn definition_kind(
     requires name { HasName bank.old name }
     requires body { IsScoped bank.old 0 body }
     requires fits { fit (tree_of bank.old body) ≡ Limit.Fits }
-    ensures answer { (v B : Tree) (y : Name) → tree_of bank.old value ≡ v → text_of bank.old name ≡ y → tree_of bank.old body ≡ B → Fitted bank.new result (subst v (close y B)) }
+    ensures answer { (v B : Tree) (y : Name) → tree_of bank.old value ≡ v → text_of bank.old name ≡ y → tree_of bank.old body ≡ B
+        → Fitted bank.new result (subst v (close y B)) }
     ensures grows { Grows bank.old bank.new }
 {
     let rest = close(bank, body, name)?;

@@ -38,8 +38,10 @@ pub fn infer<L: Ledger>(
     requires term { IsScoped work.old.bank.now 0 term }
     requires env { IsEnv work.old.bank.now env.now }
     requires context { IsContext work.old.bank.now context.now }
-    ensures answer { Infers work.new.bank.now result (λ n. infer_call (env_of work.old.bank.now env.now) n (context_of work.old.bank.now context.now) (tree_of work.old.bank.now term)) work.old.ticks.now.left work.new.ticks.now.left }
-    ensures derives { IfOk result (λ t. Derives (env_of work.old.bank.now env.now) (context_of work.old.bank.now context.now) (tree_of work.old.bank.now term) (tree_of work.new.bank.now t)) }
+    ensures answer { Infers work.new.bank.now result (λ n. infer_call (env_of work.old.bank.now env.now) n (context_of work.old.bank.now context.now)
+        (tree_of work.old.bank.now term)) work.old.ticks.now.left work.new.ticks.now.left }
+    ensures derives { IfOk result (λ t. Derives (env_of work.old.bank.now env.now) (context_of work.old.bank.now context.now) (tree_of work.old.bank.now term)
+        (tree_of work.new.bank.now t)) }
     ensures same_bank { work.new.bank.ghost_name ≡ work.old.bank.ghost_name }
     ensures same_ticks { work.new.ticks.ghost_name ≡ work.old.ticks.ghost_name }
     ensures grows { Grows work.old.bank.now work.new.bank.now }
@@ -67,8 +69,10 @@ pub fn check<L: Ledger>(
     requires wanted { IsScoped work.old.bank.now 0 wanted }
     requires env { IsEnv work.old.bank.now env.now }
     requires context { IsContext work.old.bank.now context.now }
-    ensures answer { Checks work.new.bank.now result (λ n. check_call (env_of work.old.bank.now env.now) n (context_of work.old.bank.now context.now) (tree_of work.old.bank.now term) (tree_of work.old.bank.now wanted)) work.old.ticks.now.left work.new.ticks.now.left }
-    ensures derives { OnOk result (Derives (env_of work.old.bank.now env.now) (context_of work.old.bank.now context.now) (tree_of work.old.bank.now term) (tree_of work.old.bank.now wanted)) }
+    ensures answer { Checks work.new.bank.now result (λ n. check_call (env_of work.old.bank.now env.now) n (context_of work.old.bank.now context.now)
+        (tree_of work.old.bank.now term) (tree_of work.old.bank.now wanted)) work.old.ticks.now.left work.new.ticks.now.left }
+    ensures derives { OnOk result (Derives (env_of work.old.bank.now env.now) (context_of work.old.bank.now context.now) (tree_of work.old.bank.now term)
+        (tree_of work.old.bank.now wanted)) }
     ensures dropped { OnOk result (work.new.bank.now.nodes ≡ work.old.bank.now.nodes) }
     ensures same_bank { work.new.bank.ghost_name ≡ work.old.bank.ghost_name }
     ensures same_ticks { work.new.ticks.ghost_name ≡ work.old.ticks.ghost_name }
@@ -98,7 +102,8 @@ pub fn sort_of<L: Ledger>(
     requires term { IsScoped work.old.bank.now 0 term }
     requires env { IsEnv work.old.bank.now env.now }
     requires context { IsContext work.old.bank.now context.now }
-    ensures answer { Sorts work.new.bank.now result (λ n. sort_of (env_of work.old.bank.now env.now) n (context_of work.old.bank.now context.now) (tree_of work.old.bank.now term)) work.old.ticks.now.left work.new.ticks.now.left }
+    ensures answer { Sorts work.new.bank.now result (λ n. sort_of (env_of work.old.bank.now env.now) n (context_of work.old.bank.now context.now)
+        (tree_of work.old.bank.now term)) work.old.ticks.now.left work.new.ticks.now.left }
     ensures same_bank { work.new.bank.ghost_name ≡ work.old.bank.ghost_name }
     ensures same_ticks { work.new.ticks.ghost_name ≡ work.old.ticks.ghost_name }
     ensures grows { Grows work.old.bank.now work.new.bank.now }
@@ -132,7 +137,8 @@ pub fn declare<L: Ledger>(
 ) -> Result<(), KernelFault>
     requires env { IsEnv work.old.bank.now env.old }
     requires declaration { IsDeclaration work.old.bank.now declaration }
-    ensures answer { Declares work.new.bank.now result env.new (λ n. declare work.old.bank.now (env_of work.old.bank.now env.old) n declaration) work.old.ticks.now.left work.new.ticks.now.left }
+    ensures answer { Declares work.new.bank.now result env.new (λ n. declare work.old.bank.now (env_of work.old.bank.now env.old) n declaration)
+        work.old.ticks.now.left work.new.ticks.now.left }
     ensures derived { OnOk result (DerivedEnv (env_of work.old.bank.now env.old) → DerivedEnv (env_of work.new.bank.now env.new)) }
     ensures env { IsEnv work.new.bank.now env.new }
     ensures extends { OnOk result (Extends env.old env.new) }

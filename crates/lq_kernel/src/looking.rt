@@ -60,7 +60,8 @@ fn look(
     requires context { IsContext bank.now hypotheses.now }
     requires term { HasTerm bank.now term }
     requires stack { AllByRecursion (HasTerm bank.now) stack.old.items }
-    ensures looked { IfOk result (λ o. Looked bank.now (map (λ h. h.name) (context_of bank.now hypotheses.now)) o (tree_of bank.now term) stack.old.items stack.new.items) }
+    ensures looked { IfOk result (λ o. Looked bank.now (map (λ h. h.name) (context_of bank.now hypotheses.now)) o (tree_of bank.now term) stack.old.items
+        stack.new.items) }
     ensures has { OnOk result (AllByRecursion (HasTerm bank.now) stack.new.items) }
     ensures falls { OnOk result (weight (tree_of bank.now) stack.new.items < size (tree_of bank.now term) + weight (tree_of bank.now) stack.old.items) }
 {
@@ -102,7 +103,8 @@ fn stranger(
 ) -> Result<Option<NameId>, NoMemory>
     requires context { IsContext bank.now hypotheses.now }
     requires term { HasTerm bank.now term }
-    ensures found { IfOk result (λ o. option_map (text_of bank.now) o ≡ strange (map (λ h. h.name) (context_of bank.now hypotheses.now)) (tree_of bank.now term)) }
+    ensures found { IfOk result (λ o. option_map (text_of bank.now) o ≡ strange (map (λ h. h.name) (context_of bank.now hypotheses.now))
+        (tree_of bank.now term)) }
     ensures has { IfOk result (λ o. IfSome o (HasName bank.now)) }
 {
     let mut stack = Vec::new(bank.allocator());

@@ -87,7 +87,8 @@ pub(crate) fn constant_type(bank: &Bank<'_>, env: &Env, name: NameId) -> Result<
 fn kept_type(bank: &Bank<'_>, env: &Env, name: NameId) -> Result<TermId, KernelFault>
     requires name { HasName bank.now name }
     requires env { IsEnv bank.now env.now }
-    ensures { (tree : Tree) (b : ℕ) → kind_of (env_of bank.now env.now) (text_of bank.now name) ≡ Some tree → Within 0 tree → Types bank.now result (λ n. fitting tree) b b }
+    ensures { (tree : Tree) (b : ℕ) → kind_of (env_of bank.now env.now) (text_of bank.now name) ≡ Some tree → Within 0 tree
+        → Types bank.now result (λ n. fitting tree) b b }
 {
     bank.names_apart();
     match env.kind(name) {

@@ -46,9 +46,11 @@ pub(crate) fn row_sort<L: Ledger>(
     requires term { IsScoped work.old.bank.now 0 term }
     requires env { IsEnv work.old.bank.now env.now }
     requires context { IsContext work.old.bank.now context.old }
-    ensures answer { (E : Environment) (G : TreeContext) (T : Tree) → env_of work.old.bank.now env.now ≡ E → context_of work.old.bank.now context.old ≡ G → tree_of work.old.bank.now term ≡ T
+    ensures answer { (E : Environment) (G : TreeContext) (T : Tree) → env_of work.old.bank.now env.now ≡ E → context_of work.old.bank.now context.old ≡ G
+        → tree_of work.old.bank.now term ≡ T
         → Sorts work.new.bank.now result (λ n. sort_of E n G T) work.old.ticks.now.left work.new.ticks.now.left }
-    ensures row { (E : Environment) (G : TreeContext) (T : Tree) → env_of work.old.bank.now env.now ≡ E → context_of work.old.bank.now context.old ≡ G → tree_of work.old.bank.now term ≡ T
+    ensures row { (E : Environment) (G : TreeContext) (T : Tree) → env_of work.old.bank.now env.now ≡ E → context_of work.old.bank.now context.old ≡ G
+        → tree_of work.old.bank.now term ≡ T
         → OnOk result ((n : ℕ) → work.old.ticks.now.left < n → sorts.new.items ≡ sorts.old.items ++ row_sorts E n G T) }
     ensures kept { context.new ≡ context.old }
     ensures same_bank { work.new.bank.ghost_name ≡ work.old.bank.ghost_name }
@@ -85,10 +87,14 @@ fn row_inside<L: Ledger>(
     requires rest { IsScoped work.old.bank.now 1 rest }
     requires env { IsEnv work.old.bank.now env.now }
     requires context { IsContext work.old.bank.now context.old }
-    ensures answer { (E : Environment) (G : TreeContext) (H : TreeHypothesis) (B : Tree) → env_of work.old.bank.now env.now ≡ E → context_of work.old.bank.now context.old ≡ G → hypothesis_of work.old.bank.now variable ≡ H
-        → tree_of work.old.bank.now rest ≡ B → Sorts work.new.bank.now result (λ n. sort_of E n (G ++ H ∷ []) (opened H.name B)) work.old.ticks.now.left work.new.ticks.now.left }
-    ensures row { (E : Environment) (G : TreeContext) (H : TreeHypothesis) (B : Tree) → env_of work.old.bank.now env.now ≡ E → context_of work.old.bank.now context.old ≡ G → hypothesis_of work.old.bank.now variable ≡ H
-        → tree_of work.old.bank.now rest ≡ B → OnOk result ((n : ℕ) → work.old.ticks.now.left < n → sorts.new.items ≡ sorts.old.items ++ row_sorts E n (G ++ H ∷ []) (opened H.name B)) }
+    ensures answer { (E : Environment) (G : TreeContext) (H : TreeHypothesis) (B : Tree) → env_of work.old.bank.now env.now ≡ E
+        → context_of work.old.bank.now context.old ≡ G → hypothesis_of work.old.bank.now variable ≡ H
+        → tree_of work.old.bank.now rest ≡ B → Sorts work.new.bank.now result (λ n. sort_of E n (G ++ H ∷ []) (opened H.name B)) work.old.ticks.now.left
+        work.new.ticks.now.left }
+    ensures row { (E : Environment) (G : TreeContext) (H : TreeHypothesis) (B : Tree) → env_of work.old.bank.now env.now ≡ E
+        → context_of work.old.bank.now context.old ≡ G → hypothesis_of work.old.bank.now variable ≡ H
+        → tree_of work.old.bank.now rest ≡ B → OnOk result ((n : ℕ) → work.old.ticks.now.left < n
+        → sorts.new.items ≡ sorts.old.items ++ row_sorts E n (G ++ H ∷ []) (opened H.name B)) }
     ensures kept { context.new ≡ context.old }
     ensures same_bank { work.new.bank.ghost_name ≡ work.old.bank.ghost_name }
     ensures same_ticks { work.new.ticks.ghost_name ≡ work.old.ticks.ghost_name }

@@ -39,7 +39,8 @@ pub(crate) fn type_of<L: Ledger>(
     requires term { IsScoped work.old.bank.now 0 term }
     requires env { IsEnv work.old.bank.now env.now }
     requires context { IsContext work.old.bank.now context.old }
-    ensures answer { (E : Environment) (G : TreeContext) (T : Tree) → env_of work.old.bank.now env.now ≡ E → context_of work.old.bank.now context.old ≡ G → tree_of work.old.bank.now term ≡ T
+    ensures answer { (E : Environment) (G : TreeContext) (T : Tree) → env_of work.old.bank.now env.now ≡ E → context_of work.old.bank.now context.old ≡ G
+        → tree_of work.old.bank.now term ≡ T
         → Types work.new.bank.now result (λ n. infer E n G T) work.old.ticks.now.left work.new.ticks.now.left }
     ensures kept { context.new ≡ context.old }
     ensures same_bank { work.new.bank.ghost_name ≡ work.old.bank.ghost_name }
@@ -66,7 +67,8 @@ fn node_type<L: Ledger>(
     requires term { IsScoped work.old.bank.now 0 term }
     requires env { IsEnv work.old.bank.now env.now }
     requires context { IsContext work.old.bank.now context.old }
-    ensures answer { (E : Environment) (G : TreeContext) (T : Tree) → env_of work.old.bank.now env.now ≡ E → context_of work.old.bank.now context.old ≡ G → tree_of work.old.bank.now term ≡ T
+    ensures answer { (E : Environment) (G : TreeContext) (T : Tree) → env_of work.old.bank.now env.now ≡ E → context_of work.old.bank.now context.old ≡ G
+        → tree_of work.old.bank.now term ≡ T
         → Types work.new.bank.now result (inside_of E G T) work.old.ticks.now.left work.new.ticks.now.left }
     ensures kept { context.new ≡ context.old }
     ensures same_bank { work.new.bank.ghost_name ≡ work.old.bank.ghost_name }
@@ -121,7 +123,8 @@ pub(crate) fn sort_in<L: Ledger>(
     requires term { IsScoped work.old.bank.now 0 term }
     requires env { IsEnv work.old.bank.now env.now }
     requires context { IsContext work.old.bank.now context.old }
-    ensures answer { (E : Environment) (G : TreeContext) (T : Tree) → env_of work.old.bank.now env.now ≡ E → context_of work.old.bank.now context.old ≡ G → tree_of work.old.bank.now term ≡ T
+    ensures answer { (E : Environment) (G : TreeContext) (T : Tree) → env_of work.old.bank.now env.now ≡ E → context_of work.old.bank.now context.old ≡ G
+        → tree_of work.old.bank.now term ≡ T
         → Sorts work.new.bank.now result (λ n. sort_of E n G T) work.old.ticks.now.left work.new.ticks.now.left }
     ensures kept { context.new ≡ context.old }
     ensures same_bank { work.new.bank.ghost_name ≡ work.old.bank.ghost_name }
@@ -147,7 +150,8 @@ fn product_in<L: Ledger>(
     requires term { IsScoped work.old.bank.now 0 term }
     requires env { IsEnv work.old.bank.now env.now }
     requires context { IsContext work.old.bank.now context.old }
-    ensures answer { (E : Environment) (G : TreeContext) (T : Tree) → env_of work.old.bank.now env.now ≡ E → context_of work.old.bank.now context.old ≡ G → tree_of work.old.bank.now term ≡ T
+    ensures answer { (E : Environment) (G : TreeContext) (T : Tree) → env_of work.old.bank.now env.now ≡ E → context_of work.old.bank.now context.old ≡ G
+        → tree_of work.old.bank.now term ≡ T
         → Products work.new.bank.now result (λ n. product_of E n G T) work.old.ticks.now.left work.new.ticks.now.left }
     ensures kept { context.new ≡ context.old }
     ensures same_bank { work.new.bank.ghost_name ≡ work.old.bank.ghost_name }
@@ -175,7 +179,8 @@ pub(crate) fn check_in<L: Ledger>(
     requires wanted { IsScoped work.old.bank.now 0 wanted }
     requires env { IsEnv work.old.bank.now env.now }
     requires context { IsContext work.old.bank.now context.old }
-    ensures answer { (E : Environment) (G : TreeContext) (T U : Tree) → env_of work.old.bank.now env.now ≡ E → context_of work.old.bank.now context.old ≡ G → tree_of work.old.bank.now term ≡ T → tree_of work.old.bank.now wanted ≡ U
+    ensures answer { (E : Environment) (G : TreeContext) (T U : Tree) → env_of work.old.bank.now env.now ≡ E → context_of work.old.bank.now context.old ≡ G
+        → tree_of work.old.bank.now term ≡ T → tree_of work.old.bank.now wanted ≡ U
         → Checks work.new.bank.now result (λ n. check E n G T U) work.old.ticks.now.left work.new.ticks.now.left }
     ensures kept { context.new ≡ context.old }
     ensures same_bank { work.new.bank.ghost_name ≡ work.old.bank.ghost_name }
@@ -202,8 +207,10 @@ fn type_inside<L: Ledger>(
     requires rest { IsScoped work.old.bank.now 1 rest }
     requires env { IsEnv work.old.bank.now env.now }
     requires context { IsContext work.old.bank.now context.old }
-    ensures answer { (E : Environment) (G : TreeContext) (H : TreeHypothesis) (B : Tree) → env_of work.old.bank.now env.now ≡ E → context_of work.old.bank.now context.old ≡ G → hypothesis_of work.old.bank.now variable ≡ H
-        → tree_of work.old.bank.now rest ≡ B → Types work.new.bank.now result (λ n. infer E n (G ++ H ∷ []) (opened H.name B)) work.old.ticks.now.left work.new.ticks.now.left }
+    ensures answer { (E : Environment) (G : TreeContext) (H : TreeHypothesis) (B : Tree) → env_of work.old.bank.now env.now ≡ E
+        → context_of work.old.bank.now context.old ≡ G → hypothesis_of work.old.bank.now variable ≡ H
+        → tree_of work.old.bank.now rest ≡ B → Types work.new.bank.now result (λ n. infer E n (G ++ H ∷ []) (opened H.name B)) work.old.ticks.now.left
+        work.new.ticks.now.left }
     ensures kept { context.new ≡ context.old }
     ensures same_bank { work.new.bank.ghost_name ≡ work.old.bank.ghost_name }
     ensures same_ticks { work.new.ticks.ghost_name ≡ work.old.ticks.ghost_name }
@@ -232,8 +239,10 @@ fn sort_inside<L: Ledger>(
     requires rest { IsScoped work.old.bank.now 1 rest }
     requires env { IsEnv work.old.bank.now env.now }
     requires context { IsContext work.old.bank.now context.old }
-    ensures answer { (E : Environment) (G : TreeContext) (H : TreeHypothesis) (B : Tree) → env_of work.old.bank.now env.now ≡ E → context_of work.old.bank.now context.old ≡ G → hypothesis_of work.old.bank.now variable ≡ H
-        → tree_of work.old.bank.now rest ≡ B → Sorts work.new.bank.now result (λ n. sort_of E n (G ++ H ∷ []) (opened H.name B)) work.old.ticks.now.left work.new.ticks.now.left }
+    ensures answer { (E : Environment) (G : TreeContext) (H : TreeHypothesis) (B : Tree) → env_of work.old.bank.now env.now ≡ E
+        → context_of work.old.bank.now context.old ≡ G → hypothesis_of work.old.bank.now variable ≡ H
+        → tree_of work.old.bank.now rest ≡ B → Sorts work.new.bank.now result (λ n. sort_of E n (G ++ H ∷ []) (opened H.name B)) work.old.ticks.now.left
+        work.new.ticks.now.left }
     ensures kept { context.new ≡ context.old }
     ensures same_bank { work.new.bank.ghost_name ≡ work.old.bank.ghost_name }
     ensures same_ticks { work.new.ticks.ghost_name ≡ work.old.ticks.ghost_name }
@@ -265,7 +274,8 @@ fn product_type<L: Ledger>(
     requires env { IsEnv work.old.bank.now env.now }
     requires context { IsContext work.old.bank.now context.old }
     ensures answer { (E : Environment) (G : TreeContext) → env_of work.old.bank.now env.now ≡ E → context_of work.old.bank.now context.old ≡ G
-        → Types work.new.bank.now result (inside_of E G (Tree.Prod (text_of work.old.bank.now binder) (tree_of work.old.bank.now kind) (tree_of work.old.bank.now rest))) work.old.ticks.now.left work.new.ticks.now.left }
+        → Types work.new.bank.now result (inside_of E G (Tree.Prod (text_of work.old.bank.now binder) (tree_of work.old.bank.now kind)
+        (tree_of work.old.bank.now rest))) work.old.ticks.now.left work.new.ticks.now.left }
     ensures kept { context.new ≡ context.old }
     ensures same_bank { work.new.bank.ghost_name ≡ work.old.bank.ghost_name }
     ensures same_ticks { work.new.ticks.ghost_name ≡ work.old.ticks.ghost_name }
@@ -296,7 +306,8 @@ fn function_type<L: Ledger>(
     requires env { IsEnv work.old.bank.now env.now }
     requires context { IsContext work.old.bank.now context.old }
     ensures answer { (E : Environment) (G : TreeContext) → env_of work.old.bank.now env.now ≡ E → context_of work.old.bank.now context.old ≡ G
-        → Types work.new.bank.now result (inside_of E G (Tree.Lam (text_of work.old.bank.now binder) (tree_of work.old.bank.now kind) (tree_of work.old.bank.now rest))) work.old.ticks.now.left work.new.ticks.now.left }
+        → Types work.new.bank.now result (inside_of E G (Tree.Lam (text_of work.old.bank.now binder) (tree_of work.old.bank.now kind)
+        (tree_of work.old.bank.now rest))) work.old.ticks.now.left work.new.ticks.now.left }
     ensures kept { context.new ≡ context.old }
     ensures same_bank { work.new.bank.ghost_name ≡ work.old.bank.ghost_name }
     ensures same_ticks { work.new.ticks.ghost_name ≡ work.old.ticks.ghost_name }
@@ -329,7 +340,8 @@ fn definition_type<L: Ledger>(
     requires env { IsEnv work.old.bank.now env.now }
     requires context { IsContext work.old.bank.now context.old }
     ensures answer { (E : Environment) (G : TreeContext) → env_of work.old.bank.now env.now ≡ E → context_of work.old.bank.now context.old ≡ G
-        → Types work.new.bank.now result (inside_of E G (Tree.Let (text_of work.old.bank.now binder) (tree_of work.old.bank.now value) (tree_of work.old.bank.now kind) (tree_of work.old.bank.now rest))) work.old.ticks.now.left work.new.ticks.now.left }
+        → Types work.new.bank.now result (inside_of E G (Tree.Let (text_of work.old.bank.now binder) (tree_of work.old.bank.now value)
+        (tree_of work.old.bank.now kind) (tree_of work.old.bank.now rest))) work.old.ticks.now.left work.new.ticks.now.left }
     ensures kept { context.new ≡ context.old }
     ensures same_bank { work.new.bank.ghost_name ≡ work.old.bank.ghost_name }
     ensures same_ticks { work.new.ticks.ghost_name ≡ work.old.ticks.ghost_name }
@@ -359,7 +371,8 @@ fn application_type<L: Ledger>(
     requires env { IsEnv work.old.bank.now env.now }
     requires context { IsContext work.old.bank.now context.old }
     ensures answer { (E : Environment) (G : TreeContext) → env_of work.old.bank.now env.now ≡ E → context_of work.old.bank.now context.old ≡ G
-        → Types work.new.bank.now result (inside_of E G (Tree.App (tree_of work.old.bank.now function) (tree_of work.old.bank.now argument))) work.old.ticks.now.left work.new.ticks.now.left }
+        → Types work.new.bank.now result (inside_of E G (Tree.App (tree_of work.old.bank.now function) (tree_of work.old.bank.now argument)))
+        work.old.ticks.now.left work.new.ticks.now.left }
     ensures kept { context.new ≡ context.old }
     ensures same_bank { work.new.bank.ghost_name ≡ work.old.bank.ghost_name }
     ensures same_ticks { work.new.ticks.ghost_name ≡ work.old.ticks.ghost_name }
