@@ -4,7 +4,7 @@ use Rattle.lq_trees.specs.Size.{size}
 use Rattle.lq_trees.specs.Fresh.{fresh, opened}
 use Rattle.lq_trees.proofs.Sizes.{one-le-size}
 use Rattle.lq_terms.specs.Terms.{text_of, tree_of}
-use Rattle.lq_terms.specs.Contexts.{context_of}
+use Rattle.lq_terms.specs.Contexts.{context_of, hypothesis_of}
 use Rattle.lq_env.specs.Environments.{env_of}
 use Rattle.lq_calculus.specs.Typing.{is_product}
 use Rattle.lq_calculus.specs.Checking.{sort_of, row_sorts}
@@ -57,7 +57,7 @@ row_sort-returns-clause-row g t c E G T e k i n l =
 
 pub row_inside-row_sort-sort-requires : goal.row_inside-row_sort-sort-requires
 row_inside-row_sort-sort-requires g t c κs within =
-    let r = begins c.args.work.now.bank.now c.open.new.bank c.in_ok-term.ensures.grows c.args.env.now c.args.context.now c.push.new.self c.args.variable c.args.rest c.in_ok-term.term _ _ _ _ c.in_ok-push.ensures.ok c.requires.env refl c.requires.context refl c.requires.variable refl c.requires.rest refl c.in_ok-term.ensures.opened in
+    let r = begins c.args.work.now.bank.now c.open.new.bank c.in_ok-term.ensures.grows c.args.env.now c.args.context.now c.push.new.self c.args.variable c.args.rest c.in_ok-term.term (env_of c.args.work.now.bank.now c.args.env.now) (context_of c.args.work.now.bank.now c.args.context.now) (hypothesis_of c.args.work.now.bank.now c.args.variable) (tree_of c.args.work.now.bank.now c.args.rest) c.in_ok-push.ensures.ok c.requires.env refl c.requires.context refl c.requires.variable refl c.requires.rest refl c.in_ok-term.ensures.opened in
     let same : size (tree_of c.open.new.bank c.in_ok-term.term) ≡ size (tree_of c.args.work.now.bank.now c.args.rest) =
     inside_size c.open.new.bank c.in_ok-term.term (text_of c.args.work.now.bank.now c.args.variable.name) (tree_of c.args.work.now.bank.now c.args.rest) (size (tree_of c.args.work.now.bank.now c.args.rest)) c.in_ok-term.ensures.opened refl in (omega arith, (within, (r.term, (r.env, r.context))))
 

@@ -3,7 +3,7 @@ use Rattle.lq_trees.proofs.Sizes.{one-le-size}
 use Rattle.lq_trees.specs.Size.{size}
 use Rattle.lq_trees.specs.Fresh.{fresh, opened}
 use Rattle.lq_terms.specs.Terms.{text_of, tree_of, Grows}
-use Rattle.lq_terms.specs.Contexts.{context_of}
+use Rattle.lq_terms.specs.Contexts.{context_of, hypothesis_of}
 use Rattle.lq_terms.proofs.Growth.{Grows-trans}
 use Rattle.lq_env.specs.Environments.{env_of}
 use Rattle.lq_kernel.proofs.Grown.{IsScoped-grown, IsEnv-grown, IsContext-kept, env_at, context_kept, tree_at, ready, begins, popped}
@@ -92,7 +92,7 @@ pub application_type-check_in-requires : goal.application_type-check_in-requires
 application_type-check_in-requires g t c κs within =
     let same : size (tree_of c.product_in.new.work.bank.now c.args.argument) ≡ size (tree_of c.args.work.now.bank.now c.args.argument) = ap size (c.in_ok-domain.ensures.grows.tree c.args.argument c.requires.argument.has) in (
       omega (arith, one-le-size (tree_of c.args.work.now.bank.now c.args.function)),
-      (within, (IsScoped-grown c.args.work.now.bank.now c.product_in.new.work.bank.now c.in_ok-domain.ensures.grows 0 c.args.argument c.requires.argument, ((c.in_ok-domain.ensures.answer _ _ (tree_of c.args.work.now.bank.now c.args.function) refl refl refl).0.domain, (IsEnv-grown c.args.work.now.bank.now c.product_in.new.work.bank.now c.in_ok-domain.ensures.grows c.args.env.now c.requires.env, IsContext-kept c.args.work.now.bank.now c.product_in.new.work.bank.now c.in_ok-domain.ensures.grows c.args.context.now c.product_in.new.context c.in_ok-domain.ensures.kept c.requires.context)))),
+      (within, (IsScoped-grown c.args.work.now.bank.now c.product_in.new.work.bank.now c.in_ok-domain.ensures.grows 0 c.args.argument c.requires.argument, ((c.in_ok-domain.ensures.answer (env_of c.args.work.now.bank.now c.args.env.now) (context_of c.args.work.now.bank.now c.args.context.now) (tree_of c.args.work.now.bank.now c.args.function) refl refl refl).0.domain, (IsEnv-grown c.args.work.now.bank.now c.product_in.new.work.bank.now c.in_ok-domain.ensures.grows c.args.env.now c.requires.env, IsContext-kept c.args.work.now.bank.now c.product_in.new.work.bank.now c.in_ok-domain.ensures.grows c.args.context.now c.product_in.new.context c.in_ok-domain.ensures.kept c.requires.context)))),
     )
 
 pub application_type-returns-in_err-check_in-clause-answer : goal.application_type-returns-in_err-check_in-clause-answer
@@ -132,7 +132,7 @@ definition_type-returns-in_err-check_in-clause-answer g t c E G e k =
 
 pub type_inside-type_of-kind-requires : goal.type_inside-type_of-kind-requires
 type_inside-type_of-kind-requires g t c κs within =
-    let r = begins c.args.work.now.bank.now c.open.new.bank c.in_ok-term.ensures.grows c.args.env.now c.args.context.now c.push.new.self c.args.variable c.args.rest c.in_ok-term.term _ _ _ _ c.in_ok-push.ensures.ok c.requires.env refl c.requires.context refl c.requires.variable refl c.requires.rest refl c.in_ok-term.ensures.opened in
+    let r = begins c.args.work.now.bank.now c.open.new.bank c.in_ok-term.ensures.grows c.args.env.now c.args.context.now c.push.new.self c.args.variable c.args.rest c.in_ok-term.term (env_of c.args.work.now.bank.now c.args.env.now) (context_of c.args.work.now.bank.now c.args.context.now) (hypothesis_of c.args.work.now.bank.now c.args.variable) (tree_of c.args.work.now.bank.now c.args.rest) c.in_ok-push.ensures.ok c.requires.env refl c.requires.context refl c.requires.variable refl c.requires.rest refl c.in_ok-term.ensures.opened in
     let same : size (tree_of c.open.new.bank c.in_ok-term.term) ≡ size (tree_of c.args.work.now.bank.now c.args.rest) =
     inside_size c.open.new.bank c.in_ok-term.term (text_of c.args.work.now.bank.now c.args.variable.name) (tree_of c.args.work.now.bank.now c.args.rest) (size (tree_of c.args.work.now.bank.now c.args.rest)) c.in_ok-term.ensures.opened refl in (omega arith, (within, (r.term, (r.env, r.context))))
 
@@ -146,7 +146,7 @@ type_inside-returns-clause-kept g t c = popped c.pop.result c.args.context.now c
 
 pub sort_inside-sort_in-sort-requires : goal.sort_inside-sort_in-sort-requires
 sort_inside-sort_in-sort-requires g t c κs within =
-    let r = begins c.args.work.now.bank.now c.open.new.bank c.in_ok-term.ensures.grows c.args.env.now c.args.context.now c.push.new.self c.args.variable c.args.rest c.in_ok-term.term _ _ _ _ c.in_ok-push.ensures.ok c.requires.env refl c.requires.context refl c.requires.variable refl c.requires.rest refl c.in_ok-term.ensures.opened in
+    let r = begins c.args.work.now.bank.now c.open.new.bank c.in_ok-term.ensures.grows c.args.env.now c.args.context.now c.push.new.self c.args.variable c.args.rest c.in_ok-term.term (env_of c.args.work.now.bank.now c.args.env.now) (context_of c.args.work.now.bank.now c.args.context.now) (hypothesis_of c.args.work.now.bank.now c.args.variable) (tree_of c.args.work.now.bank.now c.args.rest) c.in_ok-push.ensures.ok c.requires.env refl c.requires.context refl c.requires.variable refl c.requires.rest refl c.in_ok-term.ensures.opened in
     let same : size (tree_of c.open.new.bank c.in_ok-term.term) ≡ size (tree_of c.args.work.now.bank.now c.args.rest) =
     inside_size c.open.new.bank c.in_ok-term.term (text_of c.args.work.now.bank.now c.args.variable.name) (tree_of c.args.work.now.bank.now c.args.rest) (size (tree_of c.args.work.now.bank.now c.args.rest)) c.in_ok-term.ensures.opened refl in (omega arith, (within, (r.term, (r.env, r.context))))
 
