@@ -343,26 +343,41 @@ fn changed(bank: &mut Bank<'_>, word: &str, text: &str) -> Result<&'static str, 
     }
 }
 
-/// What a bank answers to a row, if it is one over a bank.
+/// Whether a word asks something of a bank.
+pub(crate) fn is_of_bank(word: &str) -> bool {
+    is_change(word)
+        || matches!(
+            word,
+            "same" | "measure" | "fits" | "import" | "name" | "undo" | "fresh"
+        )
+}
+
+/// Whether a word changes a term.
+fn is_change(word: &str) -> bool {
+    matches!(
+        word,
+        "lift" | "subst" | "close" | "open" | "instance" | "put" | "spread"
+    )
+}
+
+/// What a bank answers to a row.
 pub(crate) fn bank_row(
     bank: &mut Bank<'_>,
     word: &str,
     text: &str,
-) -> Result<Option<&'static str>, RowFault>
+) -> Result<&'static str, RowFault>
     ensures { Grows bank.old bank.new }
 {
-    let answer = match word {
-        "lift" | "subst" | "close" | "open" | "instance" | "put" | "spread" => changed(
-            bank, word, text,
-        )?,
-        "same" => compares(bank, text)?,
-        "measure" => measures(bank, text)?,
-        "fits" => is_fitting(bank, text)?,
-        "import" => imports(bank, text)?,
-        "name" => is_kept_once(bank, text)?,
-        "undo" => is_undone(bank, text)?,
-        "fresh" => is_fresh(bank, text)?,
-        _ => return Ok(None),
-    };
-    Ok(Some(answer))
+    if is_change(word) {
+        return changed(bank, word, text);
+    }
+    match word {
+        "same" => compares(bank, text),
+        "measure" => measures(bank, text),
+        "fits" => is_fitting(bank, text),
+        "import" => imports(bank, text),
+        "name" => is_kept_once(bank, text),
+        "undo" => is_undone(bank, text),
+        _ => is_fresh(bank, text),
+    }
 }

@@ -4,7 +4,7 @@ ghost use Rattle.lq_terms.specs.Terms.{Grows};
 ghost use Rattle.lq_env.specs.Environments.{IsEnv};
 ghost use Rattle.lq_kernel.specs.Closed.{IsContext};
 
-use crate::bank_rows::bank_row;
+use crate::bank_rows::{bank_row, is_of_bank};
 use crate::declaring::{declare_row, is_declaring};
 use crate::env_rows::env_row;
 use crate::hypotheses::assume;
@@ -28,10 +28,11 @@ fn still_row(
     requires { IsEnv bank.old env.now }
     ensures { Grows bank.old bank.new }
 {
-    match bank_row(bank, word, text)? {
-        Some(answer) => write(out, answer),
-        None => env_row(bank, env, word, text, out),
+    if is_of_bank(word) {
+        let answer = bank_row(bank, word, text)?;
+        return write(out, answer);
     }
+    env_row(bank, env, word, text, out)
 }
 
 /// Writes the answer to a row.
