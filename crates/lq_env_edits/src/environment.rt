@@ -25,7 +25,8 @@ pub fn constant_added(
 ) -> Result<(), EnvFault>
     ensures added { OnOk result (env.new ≡ env.old ++ (name, record { entry = Entry.Constant kind body opaque; kind = Some kind; made = None }) ∷ []) }
     ensures kept { OnErr result (env.new ≡ env.old) }
-    ensures told { (bank : Terms) → IsEnv bank env.old → IsOwn bank name → IsClosed bank 0 kind → IsClosed bank 0 body → Adds bank result env.new (add_constant (env_of bank env.old) (text_of bank name) (tree_of bank kind) (tree_of bank body) opaque) }
+    ensures told { (bank : Terms) → IsEnv bank env.old → IsOwn bank name → IsClosed bank 0 kind → IsClosed bank 0 body
+        → Adds bank result env.new (add_constant (env_of bank env.old) (text_of bank name) (tree_of bank kind) (tree_of bank body) opaque) }
 {
     env.add_constant(name, kind, body, opaque)
 }
@@ -33,7 +34,8 @@ pub fn constant_added(
 /// The type of a declared family's eliminator into a sort.
 pub fn eliminator_type(env: &Env, family: NameId, sort: Sort) -> Result<TermId, EnvFault>
     requires { IsFamilyEntry (entry_at env.now family) }
-    ensures told { (bank : Terms) → (f : TreeFamily) → (ss : List Universe) → IsEnv bank env.now → IsOwn bank family → IsSort sort → lookup (env_of bank env.now) (text_of bank family) ≡ Some (with_sorts f ss) → Eliminates bank result family f ss sort }
+    ensures told { (bank : Terms) → (f : TreeFamily) → (ss : List Universe) → IsEnv bank env.now → IsOwn bank family → IsSort sort
+        → lookup (env_of bank env.now) (text_of bank family) ≡ Some (with_sorts f ss) → Eliminates bank result family f ss sort }
 {
     env.elim_type(family, sort)
 }
