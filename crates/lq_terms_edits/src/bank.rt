@@ -1,13 +1,18 @@
 //! The bank.
 
 ghost use Rattle.std.specs.Prelude.{◌≡◌, ◌≤◌, ◌↔◌, IsTrue, length, OnErr, IfOk};
-ghost use Rattle.lq_terms.specs.Terms.{Terms, HasTerm, HasParts, IsTerm, IsName, Grows, tree_of, node_tree};
+ghost use Rattle.lq_terms.specs.Terms.{Terms, AddsNode, HasTerm, HasParts, IsTerm, IsName, Grows, tree_of, node_tree};
 ghost use Rattle.lq_terms.specs.Mark.{mark_of, undone};
 ghost use Rattle.lq_terms.specs.declared.nodes.NameId.{NameId};
+ghost use Rattle.lq_terms.specs.declared.nodes.TermId.{TermId};
 ghost use Rattle.lq_trees.specs.Same.{Same};
 ghost use Rattle.lq_trees.specs.Size.{fit};
+ghost use Rattle.lq_trees.specs.Marks.{holds_hypothesis, holds_unknown, loose};
 
-use lq_terms::{Bank, BankMark, NameId, NoMemory, Node, TermId, fits, same};
+use lq_terms::{
+    Bank, BankMark, NameId, NoMemory, Node, TermId, fits, holds_hypothesis, holds_unknown, loose,
+    same,
+};
 use lq_trees::Fit;
 
 /// The same trees at the same places.
@@ -28,10 +33,12 @@ pub fn named(bank: &mut Bank<'_>, text: &str) -> Result<NameId, NoMemory>
     bank.name(text)
 }
 
-/// A term that is this node.
+/// The term of a node: the one that there is, or else one more.
 pub fn made(bank: &mut Bank<'_>, node: Node) -> Result<TermId, NoMemory>
     requires { HasParts bank.old node }
     ensures made { IfOk result (λ t. IsTerm bank.new t (node_tree bank.old node)) }
+    ensures known { (t : TermId) → IsTerm bank.old t (node_tree bank.old node) → (result ≡ Ok t) × (bank.new ≡ bank.old) }
+    ensures added { ((t : TermId) → IsTerm bank.old t (node_tree bank.old node) → ⊥) → IfOk result (λ t. AddsNode bank.old node t bank.new) }
     ensures grows { Grows bank.old bank.new }
     ensures err { OnErr result (bank.new ≡ bank.old) }
 {
@@ -71,4 +78,28 @@ pub fn undo_bank(bank: &mut Bank<'_>, mark: BankMark)
     ensures back { (before : Terms) → mark ≡ mark_of before → Grows before bank.old → Grows before bank.new }
 {
     bank.undo(mark)
+}
+
+/// How many loose bound variables a term has.
+pub fn loose_variables(bank: &Bank<'_>, term: TermId) -> u64
+    requires { HasTerm bank.now term }
+    ensures { result ≡ loose (tree_of bank.now term) }
+{
+    loose(bank, term)
+}
+
+/// Whether a hypothesis stands in a term.
+pub fn has_hypothesis(bank: &Bank<'_>, term: TermId) -> bool
+    requires { HasTerm bank.now term }
+    ensures { result ≡ holds_hypothesis (tree_of bank.now term) }
+{
+    holds_hypothesis(bank, term)
+}
+
+/// Whether an unknown stands in a term.
+pub fn has_unknown(bank: &Bank<'_>, term: TermId) -> bool
+    requires { HasTerm bank.now term }
+    ensures { result ≡ holds_unknown (tree_of bank.now term) }
+{
+    holds_unknown(bank, term)
 }

@@ -5,6 +5,9 @@ mod bank;
 mod changes;
 mod ticks;
 
-pub use bank::{copied, fits_limits, imported, is_same, made, named, undo_bank};
+pub use bank::{
+    copied, fits_limits, has_hypothesis, has_unknown, imported, is_same, loose_variables, made,
+    named, undo_bank,
+};
 pub use changes::{lifted, not_taken, substituted};
 pub use ticks::taken;
