@@ -8,7 +8,7 @@ ghost use Rattle.lq_calculus.specs.Checking.{infer_call, check_call, sort_of};
 ghost use Rattle.lq_env.specs.Environments.{IsEnv, env_of, Extends};
 ghost use Rattle.lq_kernel.specs.Closed.{IsScoped, IsContext};
 ghost use Rattle.lq_kernel.specs.Answers.{Infers, Checks, Declares};
-ghost use Rattle.lq_kernel.specs.Declaring.{IsDeclaration, declare};
+ghost use Rattle.lq_kernel.specs.Declaring.{Drops, IsDeclaration, declare};
 ghost use Rattle.lq_kernel.specs.Steps.{Sorts};
 
 use lq_env::Env;
@@ -59,6 +59,7 @@ pub fn type_checked<L: Ledger>(
         (tree_of work.old.bank.now wanted)) work.old.ticks.now.left work.new.ticks.now.left }
     ensures derives { OnOk result (Derives (env_of work.old.bank.now env.now) (context_of work.old.bank.now context.now)
         (tree_of work.old.bank.now term) (tree_of work.old.bank.now wanted)) }
+    ensures dropped { OnOk result (work.new.bank.now.nodes ≡ work.old.bank.now.nodes) }
     ensures same_bank { work.new.bank.ghost_name ≡ work.old.bank.ghost_name }
     ensures same_ticks { work.new.ticks.ghost_name ≡ work.old.ticks.ghost_name }
     ensures grows { Grows work.old.bank.now work.new.bank.now }
@@ -104,6 +105,7 @@ pub fn declared<L: Ledger>(
     ensures derived { OnOk result (DerivedEnv (env_of work.old.bank.now env.old) → DerivedEnv (env_of work.new.bank.now env.new)) }
     ensures env { IsEnv work.new.bank.now env.new }
     ensures extends { OnOk result (Extends env.old env.new) }
+    ensures dropped { OnOk result (Drops work.old.bank.now work.new.bank.now declaration) }
     ensures kept { OnErr result (env.new ≡ env.old) }
     ensures same_bank { work.new.bank.ghost_name ≡ work.old.bank.ghost_name }
     ensures same_ticks { work.new.ticks.ghost_name ≡ work.old.ticks.ghost_name }
