@@ -1,8 +1,9 @@
-//! The top call once more, with its clauses: what an edit turns here is refused by the clauses alone.
+//! The top call and the number of a status once more, with their clauses: what an edit turns here is refused by the clauses alone.
 #![tactic(auto)]
 
 ghost use Rattle.std.specs.Prelude.{◌≡◌, ◌≤◌, ℕ, List, Some};
 ghost use Rattle.lq_ports.specs.Ports.{Rose};
+ghost use Rattle.lq_output.specs.Numbers.{number_of};
 ghost use Rattle.lq_output.specs.Output.{HasDerivations};
 ghost use Rattle.lq_script.specs.Main.{Gives, ReadsAll};
 
@@ -24,4 +25,11 @@ pub fn whole_script<S: Source, K: Sink>(
     ensures write_fault { result ≡ Status.WriteFault → Rose (K.faults out.old) (K.faults out.new) }
 {
     ltac_main(alloc, words, source, out)
+}
+
+/// The number of a status.
+pub fn status_number(status: Status) -> u8
+    ensures { result ≡ number_of status }
+{
+    status.number()
 }
