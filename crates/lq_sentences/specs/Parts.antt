@@ -4,7 +4,7 @@ use Rattle.lq_grammar.specs.declared.token.Symbol.{Symbol}
 use Rattle.lq_grammar.specs.declared.token.Symbol.TheVariants.{Underscore}
 use Rattle.lq_trees.specs.Tree.{Name, same_name}
 use Rattle.lq_sentences.specs.Words.{Word, is_name, is_number, is_sign, reads, text_of, value_of}
-use Rattle.lq_sentences.specs.Rules.{Rule, pure, word, choose, loop, ◌>>=◌, ◌<$>◌}
+use Rattle.lq_sentences.specs.Rules.{Rule, pure, word, choose, loop, ◌>>=◌, ◌>>◌, ◌<$>◌}
 
 -- that symbol, and that word
 abbrev pub expect : ℕ → Symbol → Rule (Unit {0})
@@ -12,6 +12,10 @@ expect n s = (λ w. tt) <$> word n (is_sign s)
 
 abbrev pub expect_word : ℕ → Name → Rule (Unit {0})
 expect_word n x = (λ w. tt) <$> word n (reads x)
+
+-- a part behind a symbol
+abbrev pub behind : {A : Type 0} → ℕ → Symbol → Rule A → Rule A
+behind n s p = expect n s >> p
 
 -- the next word if it passes a test, and whether it does
 abbrev pub eat : ℕ → (Word → Bool) → Rule Bool

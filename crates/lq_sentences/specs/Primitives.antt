@@ -1,5 +1,6 @@
 -- The grammar of the primitives, each behind its word.
-use Rattle.std.specs.Prelude.{ℕ, ◌+◌, ◌-◌, true, false, List, [], ◌∷◌, Option, codes}
+use Rattle.std.specs.Prelude.{ℕ, ◌+◌, true, false, List, [], ◌∷◌, Option, codes}
+use Rattle.lq_grammar.specs.declared.token.Symbol.{Symbol}
 use Rattle.lq_grammar.specs.declared.token.Symbol.TheVariants.{ColonEqual, BackArrow, OpenRound, CloseRound, OpenSquare, CloseSquare, Colon, Bar}
 use Rattle.lq_trees.specs.Tree.{Name}
 use Rattle.lq_ast.specs.Syntax.{Surface}
@@ -20,15 +21,18 @@ with_term h node = node <$> a_term h
 abbrev pub with_name : Here → (Name → Tac) → Rule Tac
 with_name h node = node <$> a_name (h.n + 1)
 
--- `(x : A)` and `(x := t)`
-abbrev pub with_pair : Here → (Name → Surface → Tac) → Rule (Unit {0}) → Rule Tac
-with_pair h node sign = do
-  _ ← expect (h.n + 1) OpenRound
-  x ← a_name h.n
-  _ ← sign
-  t ← term h.n free_spot
-  _ ← expect (h.n + 1) CloseRound
-  pure (node x t)
+-- `(x : A)` and `(x := t)`, with n levels inside
+abbrev pub pair : ℕ → Symbol → Rule (Name × Surface)
+pair n sign = do
+  _ ← expect (n + 1) OpenRound
+  x ← a_name n
+  _ ← expect n sign
+  t ← term n free_spot
+  _ ← expect (n + 1) CloseRound
+  pure (x, t)
+
+abbrev pub with_pair : Here → (Name → Surface → Tac) → Symbol → Rule Tac
+with_pair h node sign = (λ p. node p.0 p.1) <$> pair h.n sign
 
 -- [name]
 abbrev pub intro_form : Here → Rule Tac
@@ -42,17 +46,17 @@ intros_form h = (λ xs. prim (form.intros xs)) <$> many (h.n + 1) (is_spare h.en
 abbrev pub constructor_form : Here → Rule Tac
 constructor_form h = (λ k. prim (form.constructor k)) <$> maybe is_number (a_number (h.n + 1))
 
--- `as [x y | z]`
+-- `as [x y | z]`, with n levels inside
 abbrev pub as_names : ℕ → Rule (List (List Name))
 as_names n = do
-  _ ← expect_word n (codes "as")
-  _ ← expect n OpenSquare
-  xs ← separated (n - 1) Bar (names (n - 1))
-  _ ← expect n CloseSquare
+  _ ← expect_word (n + 1) (codes "as")
+  _ ← expect (n + 1) OpenSquare
+  xs ← separated n Bar (names n)
+  _ ← expect (n + 1) CloseSquare
   pure xs
 
 abbrev pub as_part : Here → Rule (Option (List (List Name)))
-as_part h = maybe (reads (codes "as")) (as_names (h.n + 1))
+as_part h = maybe (reads (codes "as")) (as_names h.n)
 
 abbrev pub induction_form : Here → Rule Tac
 induction_form h = do
@@ -129,9 +133,9 @@ primitive h which.Split = pure (prim form.split)
 primitive h which.Left = pure (prim form.to_left)
 primitive h which.Right = pure (prim form.to_right)
 primitive h which.Exists = with_term h (λ t. prim (form.exists t))
-primitive h which.Assert = with_pair h (λ x A. prim (form.assert_that x A)) (expect h.n Colon)
+primitive h which.Assert = with_pair h (λ x A. prim (form.assert_that x A)) Colon
 primitive h which.Cut = with_term h (λ A. prim (form.cut_by A))
-primitive h which.Pose = with_pair h (λ x t. prim (form.pose x t)) (expect h.n ColonEqual)
+primitive h which.Pose = with_pair h (λ x t. prim (form.pose x t)) ColonEqual
 primitive h which.Exfalso = pure (prim form.exfalso)
 primitive h which.Reflexivity = pure (prim form.reflexivity)
 primitive h which.Elim = with_term h (λ t. rule (form.elimination_of t))

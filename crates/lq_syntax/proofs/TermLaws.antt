@@ -1,17 +1,17 @@
 -- Terms level by level, and their trees.
-use Rattle.std.proofs.Common.{◌≡◌, ℕ, zero, suc, ◌<◌, ◌-◌, ◌+◌, true, false, List, [], ◌∷◌, ◌++◌, map, Some, None, Ok, refl, ap, ◌∙◌, arith, append-nil}
-use Rattle.lq_ast.specs.Syntax.{Surface as Tree, Applied, Written, Missing, Bound, applied}
-use Rattle.lq_ast.specs.Plain.{plain, plain_binders, joined, name_of}
+use Rattle.std.proofs.Common.{◌≡◌, ℕ, zero, suc, ◌<◌, ◌-◌, List, Option, [], ◌∷◌, map, Some, None, Ok, refl, ap, ◌∙◌, arith, append-nil}
+use Rattle.lq_trees.specs.Tree.{Name}
+use Rattle.lq_ast.specs.Syntax.{Surface as Tree, Written, Missing, Bound, applied, whole_pattern, context_pattern}
+use Rattle.lq_ast.specs.Plain.{plain, plain_binders, plain_pattern, joined, name_of}
 use Rattle.lq_ast.specs.Plain as laid
 use Rattle.lq_ast.specs.PlainCommands.{plain_group, plain_type}
 use Rattle.lq_ast.specs.declared.surface.Surface.{Surface}
 use Rattle.lq_ast.specs.declared.surface.Binder.{Binder}
+use Rattle.lq_ast.specs.declared.surface.Pattern.TheVariants as Pattern
 use Rattle.lq_ast.specs.declared.sentence.Group.{Group}
 use Rattle.lq_sentences.specs.Words.{Words}
-use Rattle.lq_sentences.specs.Rules.{◌<$>◌, sees, Read, and_then, read_word, read}
-use Rattle.lq_sentences.specs.Terms.{Spot, term, term_in, levels, no_term, atom_at, arguments, begins_argument, typed}
-use Rattle.lq_sentences.proofs.LoopLaws.{loop_done}
-use Rattle.lq_syntax.proofs.Loops.{fold_again}
+use Rattle.lq_sentences.specs.Rules.{read}
+use Rattle.lq_sentences.specs.Terms.{Spot, term_behind, arrow_term, term, term_in, levels, no_term, typed, untyped}
 use Rattle.lq_syntax.specs.Views.{inner_term, binder_of}
 
 -- ---- levels
@@ -42,20 +42,15 @@ pub type_some : (A : Surface) → plain_type (Some A) ≡ Some (plain A)
 unfolding plain_type
 type_some A = refl
 
-pub applied_more : (f a : Tree) (as_ : List Tree) → applied f (as_ ++ a ∷ []) ≡ Applied (applied f as_) a
-unfolding applied
-applied_more f a [] = refl
-applied_more f a (b ∷ bs) = applied_more (Applied f b) a bs
-
 pub applied_none : (f : Tree) → applied f [] ≡ f
 unfolding applied
 applied_none f = refl
 
-pub typed_is : (A : Tree) (xs : List Binder) → typed (map binder_of xs) (Some A) ≡ map (laid.typed A) xs
+pub typed_is : (A : Tree) (xs : List Binder) → typed (map binder_of xs) A ≡ map (laid.typed A) xs
 typed_is A [] = refl
 typed_is A (x ∷ xs) = ap (λ ys. (name_of x.name, Written A) ∷ ys) (typed_is A xs)
 
-pub untyped_is : (xs : List Binder) → typed (map binder_of xs) None ≡ map laid.untyped xs
+pub untyped_is : (xs : List Binder) → untyped (map binder_of xs) ≡ map laid.untyped xs
 untyped_is [] = refl
 untyped_is (x ∷ xs) = ap (λ ys. (name_of x.name, Missing x.place) ∷ ys) (untyped_is xs)
 
@@ -66,24 +61,26 @@ group_is g = refl
 pub joined_one : (xs : List Bound) → joined (xs ∷ []) ≡ xs
 joined_one xs = append-nil xs
 
-pub ruleset trees = (type_none, type_some, applied_more, applied_none, typed_is, untyped_is, group_is, joined_one)
+pub ruleset trees = (type_none, type_some, applied_none, typed_is, untyped_is, group_is, joined_one)
 
--- ---- arguments
+-- ---- behind the first atom
 
-unfoldable pub arguments_from : ℕ → Spot → Tree → Words → Read Tree
-arguments_from n c f ws = read (arguments n (term n) c f) ws
+pub behind_zero : (n : ℕ) (c : Spot) (f : Tree) (ws : Words) → n ≡ 0 → read (term_behind n c f) ws ≡ Ok (f, ws)
+unfolding term_behind
+behind_zero zero c f ws e = refl
+behind_zero (suc n) c f ws e = absurd (omega arith)
 
-pub arguments_are : (n : ℕ) (c : Spot) (f : Tree) (ws : Words) → arguments_from n c f ws ≡ read (arguments n (term n) c f) ws
-unfolding arguments_from
-arguments_are n c f ws = refl
+pub behind_down : (n : ℕ) (c : Spot) (f : Tree) (ws : Words) → 0 < n → read (term_behind n c f) ws ≡ read (arrow_term (n - 1) (term (n - 1)) c f) ws
+unfolding term_behind
+behind_down zero c f ws h = absurd (omega arith)
+behind_down (suc n) c f ws h = let e : n ≡ suc n - 1 = omega arith in ap (λ m. read (arrow_term m (term m) c f) ws) e
 
-pub arguments_go : (n : ℕ) (c : Spot) (f : Tree) (ws : Words) → sees (begins_argument c.ends) ws ≡ true →
-    arguments_from n c f ws ≡ and_then (read_word (n + 1) (begins_argument c.ends) ws) (λ w vs. and_then (read (atom_at n (term n) c w.1 w.0) vs) (λ a us. arguments_from n c (Applied f a) us))
-unfolding arguments_from
-arguments_go n c f ws e = fold_again (n + 1) (λ g w. begins_argument c.ends w) Applied (λ g w. atom_at n (term n) c w.1 w.0) f ws e
+pub whole_is : (t : Surface) → plain_pattern (Pattern.Whole t) ≡ whole_pattern (plain t)
+unfolding plain_pattern
+whole_is t = refl
 
-pub arguments_end : (n : ℕ) (c : Spot) (f : Tree) (ws : Words) → sees (begins_argument c.ends) ws ≡ false → arguments_from n c f ws ≡ Ok (f, ws)
-unfolding arguments_from
-arguments_end n c f ws e = loop_done (n + 1) (λ g w. begins_argument c.ends w) (λ g w. Applied g <$> atom_at n (term n) c w.1 w.0) f ws e
+pub inside_is : (x : Option Name) (t : Surface) → plain_pattern (Pattern.Inside x t) ≡ context_pattern x (plain t)
+unfolding plain_pattern
+inside_is x t = refl
 
-pub ruleset argument_laws = (arguments_are, arguments_go, arguments_end)
+pub ruleset patterns = (whole_is, inside_is)

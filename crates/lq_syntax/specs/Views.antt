@@ -1,18 +1,23 @@
 -- Words as the grammar has them, and what a function that reads ensures.
-use Rattle.std.specs.Prelude.{◌≡◌, ℕ, ◌+◌, ◌-◌, Bool, false, List, [], ◌∷◌, map, Result, Ok, Err, codes}
+use Rattle.std.specs.Prelude.{◌≡◌, ℕ, ◌+◌, ◌-◌, Bool, false, List, [], ◌∷◌, map, Option, Result, Ok, Err, codes}
 use Rattle.lq_trees.specs.Tree.{Name as Text}
-use Rattle.lq_ast.specs.Syntax.{Surface, Bound}
-use Rattle.lq_ast.specs.Plain.{name_of, joined, plain_binders}
+use Rattle.lq_ast.specs.Syntax.{Surface, Domain, Bound, applied}
+use Rattle.lq_ast.specs.Plain.{name_of, joined, plain, plain_domain, plain_binders}
+use Rattle.lq_ast.specs.PlainCommands.{plain_groups}
+use Rattle.lq_ast.specs.declared.sentence.Group.{Group}
 use Rattle.lq_ast.specs.declared.surface.Binders.{Binders}
 use Rattle.lq_ast.specs.declared.surface.Binder.{Binder}
-use Rattle.lq_grammar.specs.declared.token.Symbol.TheVariants.{Arrow}
+use Rattle.lq_ast.specs.declared.surface.Surface.{Surface as Term}
+use Rattle.lq_ast.specs.declared.surface.Domain.{Domain as Code}
+use Rattle.lq_grammar.specs.declared.token.Symbol.TheVariants.{OpenRound}
 use Rattle.lq_sentences.specs.Words as tree
 use Rattle.lq_sentences.specs.Words.{Words, undoubled, is_name, is_number, is_sign}
-use Rattle.lq_sentences.specs.Rules.{Rule, ◌>>◌, unexpected, too_nested, ended, Read}
-use Rattle.lq_sentences.specs.Parts.{expect, is_spare, is_binder}
-use Rattle.lq_sentences.specs.Terms.{Spot as Where, term, term_in, within, group, begins_atom, begins_argument, begins_term, is_level}
+use Rattle.lq_sentences.specs.Rules.{Rule, ◌<$>◌, unexpected, too_nested, ended, Read}
+use Rattle.lq_sentences.specs.Parts.{many, is_spare, is_binder}
+use Rattle.lq_sentences.specs.Terms.{Spot as Where, term, term_in, inner_group, atom_at, arguments, begins_atom, begins_argument, begins_term, is_level}
 use Rattle.lq_sentences.specs.Arguments.{begins_message, begins_amount, begins_part, begins_arg}
-use Rattle.lq_sentences.specs.Tactics.{begins_pre}
+use Rattle.lq_sentences.specs.Levels.{Here}
+use Rattle.lq_sentences.specs.Tactics.{begins_pre, level}
 use Rattle.lq_syntax.specs.declared.word.Word.{Word}
 use Rattle.lq_syntax.specs.declared.word.Word.TheVariants.{Name, Number, Quoted, Symbol, Bullet}
 use Rattle.lq_syntax.specs.declared.word.Placed.{Placed}
@@ -81,13 +86,39 @@ bound_of bs = joined (map plain_binders bs)
 abbrev pub inner_term : ℕ → Where → Rule Surface
 inner_term n c = term_in n (n - 1) (term n) (term (n - 1)) c
 
--- `(x y : A)` behind its bracket, in a term with so many levels inside
-abbrev pub inner_group : ℕ → Where → tree.Word × ℕ → Rule (List Bound)
-inner_group n c w = group n (n - 1) (term (n - 1) (within c))
+-- groups in a row, in a term with so many levels inside
+abbrev pub inner_groups : ℕ → Where → Rule (List Bound)
+inner_groups n c = joined <$> many n (is_sign OpenRound) (inner_group n (n - 1) (term (n - 1)) c) []
 
--- an arrow and the term behind it
-abbrev pub behind_sign : ℕ → Where → Rule Surface
-behind_sign n c = expect (n + 1) Arrow >> term n c
+-- the arguments behind those found so far, in a term with so many levels inside
+abbrev pub more_atoms : ℕ → Where → List Surface → Rule (List Surface)
+more_atoms n c found = many (n + 1) (begins_argument c.ends) (atom_at n (term n) c) found
+
+-- a function with its arguments, behind the function
+abbrev pub application_of : ℕ → Where → Surface → Rule Surface
+application_of n c f = applied f <$> arguments n (term n) c
+
+-- the head of a `let`, and what stands behind it
+abbrev pub head_of : Option Text × Code → Text × Domain
+head_of h = (name_of h.0, plain_domain h.1)
+
+abbrev pub body_of : Term × Term → Surface × Surface
+body_of b = (plain b.0, plain b.1)
+
+-- a name with what is declared with it, and with its type
+abbrev pub declared_head : Text × List Group → Text × List Bound
+declared_head d = (d.0, plain_groups d.1)
+
+abbrev pub declared_of : Text × List Group × Term → Text × List Bound × Surface
+declared_of d = (d.0, plain_groups d.1, plain d.2)
+
+-- a name with a term
+abbrev pub pair_of : Text × Term → Text × Surface
+pair_of p = (p.0, plain p.1)
+
+-- where an expression is read that has so many levels inside
+abbrev pub here : ℕ → Ends → Here
+here n e = record { n = n; below = level n; ends = ends_of e }
 
 -- the refusal is that of the outcome, or memory ran out
 abbrev pub Fails : {A : Type 0} → Refusal → Read A → Type 0

@@ -2,8 +2,14 @@
 #![tactic(auto)]
 
 mod atoms;
+mod commands;
 mod cursor;
 mod names;
+mod patterns;
+mod primitives;
 mod refusal;
+mod selectors;
+mod tables;
+mod terms;
 mod trees;
 mod word;

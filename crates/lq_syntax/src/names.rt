@@ -3,7 +3,7 @@
 ghost use Rattle.std.specs.Prelude.{◌≡◌, [], ◌∷◌, map};
 ghost use Rattle.lq_sentences.specs.Words.{is_name};
 ghost use Rattle.lq_sentences.specs.Rules.{read};
-ghost use Rattle.lq_sentences.specs.Parts.{many, name_word, some_names, some_binders, binder_word, is_binder};
+ghost use Rattle.lq_sentences.specs.Parts.{many, name_word, names, some_names, some_binders, binder_word, is_binder};
 ghost use Rattle.lq_syntax.specs.Views.{test_of, binder_of, Gives, same};
 
 use crate::cursor::Cursor;
@@ -30,6 +30,17 @@ pub fn more_names(
         names.push(name_of(alloc, next.word)?)?;
     }
     Ok(names)
+}
+
+/// Names.
+pub fn names(
+    alloc: Global,
+    cursor: &mut Cursor<'_, '_>,
+    levels: usize,
+) -> Result<Items<Name>, Refusal>
+    ensures { Gives same (read (names levels) cursor.old) result cursor.new }
+{
+    more_names(alloc, cursor, levels, Test::Name, Items::new(alloc))
 }
 
 /// Names, and at least one.

@@ -2,58 +2,14 @@
 
 ghost use Rattle.std.specs.Prelude.{◌≡◌, map, IfOk};
 ghost use Rattle.lq_ast.specs.Syntax.{applied};
-ghost use Rattle.lq_ast.specs.Plain.{plain, plain_binders, plain_domain};
-ghost use Rattle.lq_ast.specs.PlainCommands.{plain_group, plain_type};
-ghost use Rattle.lq_sentences.specs.Terms.{typed, cast, domain_of, arrow};
-ghost use Rattle.lq_syntax.specs.Views.{binder_of};
+ghost use Rattle.lq_ast.specs.Plain.{plain, plain_binders};
+ghost use Rattle.lq_ast.specs.PlainCommands.{plain_group};
+ghost use Rattle.lq_sentences.specs.Terms.{typed, untyped};
+ghost use Rattle.lq_syntax.specs.Views.{binder_of, bound_of};
 
-use lq_ast::{Binder, Binders, Domain, Group, Surface};
+use lq_ast::{Binder, Binders, Group, Surface};
 use sqlite_items::{Boxed, Items};
 use std::alloc::{AllocError, Global};
-
-/// A term in brackets, with its type if one is written.
-#[tactic(auto, using(lq_ast::proofs::PlainLaws::plain_laws, crate::proofs::TermLaws::trees))]
-pub fn in_brackets(
-    alloc: Global,
-    term: Surface,
-    kind: Option<Surface>,
-) -> Result<Surface, AllocError>
-    ensures { IfOk result (λ t. plain t ≡ cast (plain term) (plain_type kind)) }
-{
-    match kind {
-        Some(kind) => {
-            let term = Boxed::new(alloc, term)?;
-            Ok(Surface::Cast(term, Boxed::new(alloc, kind)?))
-        }
-        None => Ok(term),
-    }
-}
-
-/// What is bound together.
-#[tactic(auto, using(lq_ast::proofs::PlainLaws::plain_laws, crate::proofs::TermLaws::trees))]
-pub fn together(
-    alloc: Global,
-    names: Items<Binder>,
-    kind: Option<Surface>,
-) -> Result<Binders, AllocError>
-    ensures { IfOk result (λ b. plain_binders b ≡ typed (map binder_of names) (plain_type kind)) }
-{
-    match kind {
-        Some(kind) => Ok(Binders::Typed(names, Boxed::new(alloc, kind)?)),
-        None => Ok(Binders::Bare(names)),
-    }
-}
-
-/// The type of what a `let` binds.
-#[tactic(auto, using(lq_ast::proofs::PlainLaws::plain_laws, crate::proofs::TermLaws::trees))]
-pub fn domain(alloc: Global, kind: Option<Surface>, place: u64) -> Result<Domain, AllocError>
-    ensures { IfOk result (λ d. plain_domain d ≡ domain_of (plain_type kind) place) }
-{
-    match kind {
-        Some(kind) => Ok(Domain::Written(Boxed::new(alloc, kind)?)),
-        None => Ok(Domain::Missing(place)),
-    }
-}
 
 /// A function with its arguments.
 #[tactic(auto, using(lq_ast::proofs::PlainLaws::plain_laws, crate::proofs::TermLaws::trees))]
@@ -71,28 +27,36 @@ pub fn applied(
     }
 }
 
-/// A term before an arrow, if one is written.
-#[tactic(auto, using(lq_ast::proofs::PlainLaws::plain_laws, crate::proofs::TermLaws::trees))]
-pub fn with_arrow(
-    alloc: Global,
-    left: Surface,
-    right: Option<Surface>,
-) -> Result<Surface, AllocError>
-    ensures { IfOk result (λ t. plain t ≡ arrow (plain left) (plain_type right)) }
-{
-    match right {
-        Some(right) => {
-            let left = Boxed::new(alloc, left)?;
-            Ok(Surface::Arrow(left, Boxed::new(alloc, right)?))
-        }
-        None => Ok(left),
-    }
-}
-
 /// What a group binds.
 #[tactic(auto, using(lq_ast::proofs::PlainLaws::plain_laws, crate::proofs::TermLaws::trees))]
 pub fn typed(alloc: Global, group: Group) -> Result<Binders, AllocError>
     ensures { IfOk result (λ b. plain_binders b ≡ plain_group group) }
 {
     Ok(Binders::Typed(group.names, Boxed::new(alloc, group.kind)?))
+}
+
+/// What is bound together, alone.
+#[tactic(auto, using(crate::proofs::TermLaws::trees))]
+pub fn alone(alloc: Global, binders: Binders) -> Result<Items<Binders>, AllocError>
+    ensures { IfOk result (λ bs. bound_of bs ≡ plain_binders binders) }
+{
+    let mut found = Items::new(alloc);
+    found.push(binders)?;
+    Ok(found)
+}
+
+/// Names with the type that is written behind them.
+#[tactic(auto, using(lq_ast::proofs::PlainLaws::plain_laws, crate::proofs::TermLaws::trees))]
+pub fn with_type(names: Items<Binder>, kind: Boxed<Surface>) -> Binders
+    ensures { plain_binders result ≡ typed (map binder_of names) (plain kind) }
+{
+    Binders::Typed(names, kind)
+}
+
+/// Names without a type.
+#[tactic(auto, using(lq_ast::proofs::PlainLaws::plain_laws, crate::proofs::TermLaws::trees))]
+pub fn bare(names: Items<Binder>) -> Binders
+    ensures { plain_binders result ≡ untyped (map binder_of names) }
+{
+    Binders::Bare(names)
 }
