@@ -2,3 +2,4 @@ pub mod Loops
 pub mod TermLaws
 pub mod Failing
 pub mod Missing
+pub mod Quotes

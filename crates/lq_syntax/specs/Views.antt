@@ -15,9 +15,9 @@ use Rattle.lq_sentences.specs.Words.{Words, undoubled, is_name, is_number, is_si
 use Rattle.lq_sentences.specs.Rules.{Rule, ◌<$>◌, unexpected, too_nested, ended, Read}
 use Rattle.lq_sentences.specs.Parts.{many, is_spare, is_binder}
 use Rattle.lq_sentences.specs.Terms.{Spot as Where, term, term_in, inner_group, atom_at, arguments, begins_atom, begins_argument, begins_term, is_level}
-use Rattle.lq_sentences.specs.Arguments.{begins_message, begins_amount, begins_part, begins_arg}
+use Rattle.lq_sentences.specs.Arguments.{begins_message, is_amount, begins_amount, begins_part, begins_arg}
 use Rattle.lq_sentences.specs.Levels.{Here}
-use Rattle.lq_sentences.specs.Tactics.{begins_pre, level}
+use Rattle.lq_sentences.specs.Tactics.{is_reduction, begins_pre, level}
 use Rattle.lq_syntax.specs.declared.word.Word.{Word}
 use Rattle.lq_syntax.specs.declared.word.Word.TheVariants.{Name, Number, Quoted, Symbol, Bullet}
 use Rattle.lq_syntax.specs.declared.word.Placed.{Placed}
@@ -63,6 +63,8 @@ test_of test.Term = begins_term
 test_of test.Level = is_level
 test_of (test.Message e) = begins_message (ends_of e)
 test_of (test.Amount e) = begins_amount (ends_of e)
+test_of test.Count = is_amount
+test_of test.Reduction = is_reduction
 test_of (test.Part e) = begins_part (ends_of e)
 test_of (test.Arg e) = begins_arg (ends_of e)
 test_of test.Tactic = begins_pre

@@ -4,6 +4,8 @@
 mod atoms;
 mod commands;
 mod cursor;
+mod forms;
+mod messages;
 mod names;
 mod patterns;
 mod primitives;

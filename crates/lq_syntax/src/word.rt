@@ -80,6 +80,10 @@ pub enum Test {
     Message(Ends),
     /// A number, or a name that may be left out.
     Amount(Ends),
+    /// A number or a name.
+    Count,
+    /// What `eval` gives.
+    Reduction,
     /// What `fresh` joins.
     Part(Ends),
     /// What begins the argument of a call.
@@ -314,6 +318,8 @@ pub fn passes(test: Test, word: Word<'_>) -> bool
         Test::Level => is_level(word),
         Test::Message(ends) => is_quoted(word) || is_number(word) || is_spare(ends, word),
         Test::Amount(ends) => is_number(word) || is_spare(ends, word),
+        Test::Count => is_number(word) || is_name(word),
+        Test::Reduction => is_word("hnf", word) || is_word("compute", word),
         Test::Part(ends) => is_quoted(word) || is_spare(ends, word),
         Test::Arg(ends) => is_number(word) || begins_argument(ends, word),
         Test::Tactic => begins_tactic(word),
