@@ -184,9 +184,13 @@ levels (suc n) = let l = levels n in (term_in n (n - 1) l.0 l.1, l.0)
 abbrev pub term : ℕ → Spot → Rule Surface
 term n = (levels n).0
 
+-- atoms with no level of nesting left
+abbrev pub no_atom : Spot → Rule Surface
+no_atom c = (λ w. PropSort) <$> word 0 begins_atom
+
 -- an atom with so many levels left, and what a term goes on with behind its first atom
 unfoldable pub atom_level : ℕ → Spot → Rule Surface
-atom_level zero c = (λ w. PropSort) <$> word 0 begins_atom
+atom_level zero c = no_atom c
 atom_level (suc n) c = atom n (term n) c
 
 unfoldable pub term_behind : ℕ → Spot → Surface → Rule Surface

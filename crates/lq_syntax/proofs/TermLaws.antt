@@ -11,7 +11,7 @@ use Rattle.lq_ast.specs.declared.surface.Pattern.TheVariants as Pattern
 use Rattle.lq_ast.specs.declared.sentence.Group.{Group}
 use Rattle.lq_sentences.specs.Words.{Words}
 use Rattle.lq_sentences.specs.Rules.{read}
-use Rattle.lq_sentences.specs.Terms.{Spot, term_behind, arrow_term, term, term_in, levels, no_term, typed, untyped}
+use Rattle.lq_sentences.specs.Terms.{Spot, atom, atom_level, no_atom, term_behind, arrow_term, term, term_in, levels, no_term, typed, untyped}
 use Rattle.lq_syntax.specs.Views.{inner_term, binder_of}
 
 -- ---- levels
@@ -64,6 +64,16 @@ joined_one xs = append-nil xs
 pub ruleset trees = (type_none, type_some, applied_none, typed_is, untyped_is, group_is, joined_one)
 
 -- ---- behind the first atom
+
+pub atom_zero : (n : ℕ) (c : Spot) (ws : Words) → n ≡ 0 → read (atom_level n c) ws ≡ read (no_atom c) ws
+unfolding atom_level
+atom_zero zero c ws e = refl
+atom_zero (suc n) c ws e = absurd (omega arith)
+
+pub atom_down : (n : ℕ) (c : Spot) (ws : Words) → 0 < n → read (atom_level n c) ws ≡ read (atom (n - 1) (term (n - 1)) c) ws
+unfolding atom_level
+atom_down zero c ws h = absurd (omega arith)
+atom_down (suc n) c ws h = let e : n ≡ suc n - 1 = omega arith in ap (λ m. read (atom m (term m) c) ws) e
 
 pub behind_zero : (n : ℕ) (c : Spot) (f : Tree) (ws : Words) → n ≡ 0 → read (term_behind n c f) ws ≡ Ok (f, ws)
 unfolding term_behind

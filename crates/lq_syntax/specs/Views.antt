@@ -17,6 +17,7 @@ use Rattle.lq_sentences.specs.Parts.{many, is_spare, is_binder}
 use Rattle.lq_sentences.specs.Terms.{Spot as Where, term, term_in, inner_group, atom_at, arguments, begins_atom, begins_argument, begins_term, is_level}
 use Rattle.lq_sentences.specs.Arguments.{begins_message, is_amount, begins_amount, begins_part, begins_arg}
 use Rattle.lq_sentences.specs.Levels.{Here}
+use Rattle.lq_sentences.specs.Sentences.{is_mark, opens}
 use Rattle.lq_sentences.specs.Tactics.{is_reduction, begins_pre, level}
 use Rattle.lq_syntax.specs.declared.word.Word.{Word}
 use Rattle.lq_syntax.specs.declared.word.Word.TheVariants.{Name, Number, Quoted, Symbol, Bullet}
@@ -68,6 +69,8 @@ test_of test.Reduction = is_reduction
 test_of (test.Part e) = begins_part (ends_of e)
 test_of (test.Arg e) = begins_arg (ends_of e)
 test_of test.Tactic = begins_pre
+test_of (test.Opening b) = opens b
+test_of test.Mark = is_mark
 
 -- where a term stands
 abbrev pub spot_of : Spot → Where

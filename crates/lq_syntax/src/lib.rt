@@ -5,6 +5,8 @@ mod atoms;
 mod commands;
 mod cursor;
 mod forms;
+mod marks;
+mod matches;
 mod messages;
 mod names;
 mod patterns;

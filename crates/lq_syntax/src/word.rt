@@ -4,6 +4,7 @@ ghost use Rattle.std.specs.Prelude.{◌≡◌, IfOk};
 ghost use Rattle.lq_ast.specs.Plain.{name_of};
 ghost use Rattle.lq_sentences.specs.Words.{is_sign, is_number, is_quoted, value_of, reads, is_name, text_of};
 ghost use Rattle.lq_sentences.specs.Terms.{begins_atom, is_level};
+ghost use Rattle.lq_sentences.specs.Sentences.{is_mark};
 ghost use Rattle.lq_grammar.specs.Selectors.{is_reserved};
 ghost use Rattle.lq_syntax.specs.Views.{word_of, ends_of, test_of, binder_of};
 
@@ -90,6 +91,10 @@ pub enum Test {
     Arg(Ends),
     /// What begins an expression.
     Tactic,
+    /// `{`, where it may stand.
+    Opening(bool),
+    /// `{`, `}`, or a bullet of at most four.
+    Mark,
 }
 
 /// Whether a word is that symbol.
@@ -299,7 +304,24 @@ fn begins_argument(ends: Ends, word: Word<'_>) -> bool
     begins_atom(word) && !is_end(ends, word)
 }
 
+/// Whether a word is a sentence of its own.
+fn is_mark(word: Word<'_>) -> bool
+    ensures { result ≡ is_mark (word_of word.entry) }
+{
+    match word {
+        Word::Bullet(_, count) => count != 5,
+        Word::Symbol(_) => is_symbol(Symbol::OpenCurly, word)
+            || is_symbol(Symbol::CloseCurly, word),
+        Word::Name(_) => is_symbol(Symbol::OpenCurly, word) || is_symbol(Symbol::CloseCurly, word),
+        Word::Number(_) => is_symbol(Symbol::OpenCurly, word)
+            || is_symbol(Symbol::CloseCurly, word),
+        Word::Quoted(_) => is_symbol(Symbol::OpenCurly, word)
+            || is_symbol(Symbol::CloseCurly, word),
+    }
+}
+
 /// Whether a word passes a test.
+#[tactic(auto, unfolding(lq_sentences::specs::Sentences::opens))]
 pub fn passes(test: Test, word: Word<'_>) -> bool
     ensures { result ≡ test_of test (word_of word.entry) }
 {
@@ -323,5 +345,7 @@ pub fn passes(test: Test, word: Word<'_>) -> bool
         Test::Part(ends) => is_quoted(word) || is_spare(ends, word),
         Test::Arg(ends) => is_number(word) || begins_argument(ends, word),
         Test::Tactic => begins_tactic(word),
+        Test::Opening(may_open) => may_open && is_symbol(Symbol::OpenCurly, word),
+        Test::Mark => is_mark(word),
     }
 }
