@@ -10,6 +10,8 @@ ghost use Rattle.lq_sentences.specs.Rules.{read};
 ghost use Rattle.lq_sentences.specs.Parts.{behind, many, maybe, separated};
 ghost use Rattle.lq_sentences.specs.Sentences.{all_levels, a_term, outer_group, groups, colon, constructor};
 ghost use Rattle.lq_sentences.specs.Sentences.{constructors, head, declared, inductive_form, definition_form, statement_form};
+ghost use Rattle.lq_sentences.specs.Sentences.{command_of};
+ghost use Rattle.lq_sentences.specs.declared.forms.Command.TheVariants.{Print, Check};
 ghost use Rattle.lq_syntax.specs.Views.{declared_head, declared_of, Gives};
 
 use crate::cursor::Cursor;
@@ -176,6 +178,22 @@ pub fn definition(alloc: Global, cursor: &mut Cursor<'_, '_>) -> Result<Vernac, 
     let kind = written_type(alloc, cursor)?;
     let body = value(alloc, cursor)?;
     Ok(Vernac::Definition(name, parameters, kind, body))
+}
+
+/// `Print` behind its word.
+#[tactic(auto, unfolding(lq_ast::specs::PlainCommands::plain_vernac))]
+pub fn print(alloc: Global, cursor: &mut Cursor<'_, '_>) -> Result<Vernac, Refusal>
+    ensures { Gives plain_vernac (read (command_of Print) cursor.old) result cursor.new }
+{
+    Ok(Vernac::Print(cursor.name(alloc, 201)?))
+}
+
+/// `Check` behind its word.
+#[tactic(auto, unfolding(lq_ast::specs::PlainCommands::plain_vernac))]
+pub fn check(alloc: Global, cursor: &mut Cursor<'_, '_>) -> Result<Vernac, Refusal>
+    ensures { Gives plain_vernac (read (command_of Check) cursor.old) result cursor.new }
+{
+    Ok(Vernac::Check(term(alloc, cursor, 201, FREE)?))
 }
 
 /// `Theorem` behind its word.

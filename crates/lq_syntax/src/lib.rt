@@ -1,4 +1,5 @@
-//! How sentences are read: words of a text, and a function for each rule of the grammar.
+//! Parts of sentences as the program reads them: words and their tests, terms, patterns, messages, primitives, selectors,
+//! declarations, marks. A function stands for a rule of the grammar, and reads what the rule reads, or memory runs out.
 #![tactic(auto)]
 
 mod atoms;

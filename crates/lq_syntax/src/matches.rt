@@ -57,7 +57,8 @@ fn more_hyps(
     found: &mut Items<Hyp>,
 ) -> Result<(), Refusal>
     requires { levels ≤ 201 }
-    ensures { Gives (λ u. map plain_hyp found.new) (read (many levels (is_sign Comma) (λ w. hyp levels) (map plain_hyp found.old)) cursor.old) result cursor.new }
+    ensures { Gives (λ u. map plain_hyp found.new)
+        (read (many levels (is_sign Comma) (λ w. hyp levels) (map plain_hyp found.old)) cursor.old) result cursor.new }
 {
     while cursor.sees(Test::Sign(Symbol::Comma)) {
         cursor.take(levels, Test::Sign(Symbol::Comma))?;
