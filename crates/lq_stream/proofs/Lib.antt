@@ -1,0 +1,7 @@
+mod Arenas
+mod Choosing
+mod MoveArms
+mod FailArms
+mod Switching
+mod SuccessArms
+mod Keeping
