@@ -5,3 +5,4 @@ mod FailArms
 mod Switching
 mod SuccessArms
 mod Keeping
+mod SoleArms

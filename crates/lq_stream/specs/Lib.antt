@@ -1,3 +1,4 @@
 pub mod Stepping
 pub mod Reading
 pub mod Holding
+pub mod Failing

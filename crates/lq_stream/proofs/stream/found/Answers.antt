@@ -1,0 +1,66 @@
+use Rattle.std.proofs.Common.{rules, ◌≡◌, ◌∷◌, Some, length, slice_get, subst, sym, ◌∙◌, arith}
+use Rattle.lq_runs.specs.Stacks as Stack
+use Rattle.lq_runs.specs.Streams.{fails, Shows}
+use Rattle.lq_stream.specs.Holding.{HasFirst}
+use Rattle.lq_stream.specs.declared.stacks.Choice.TheVariants.{NoSuccess, FirstSuccess}
+use Rattle.lq_stream.specs.Reading.{choices_of}
+use Rattle.lq_stream.proofs.SoleArms.{read_at, set_twice, take_set, first_found, second_found, none_found, nothing_found}
+use Rattle.lq_stream.proofs.stream.found.Goals as goal
+
+pub returns-then-height-len : goal.returns-then-height-len
+returns-then-height-len g c =
+    let n : c.len.result ≡ length c.args.choices.now.items = search (rules, c.len.ensures) in
+    record {
+      stands =
+          λ ls ks f q. absurd (nothing_found g.M.Machine.rest_rank (g.M.Machine.told c.args.machine.now) (g.M.Machine.does c.args.machine.now) (g.M.Machine.state c.args.machine.now) ls ks
+          c.args.choices.now.items f c.args.height c.args.value (omega (arith, n, c.if-height-len.true)) q);
+    }
+
+pub returns-in-NoSuccess : goal.returns-in-NoSuccess
+returns-in-NoSuccess g c =
+    let n : c.len.result ≡ length c.args.choices.now.items = search (rules, c.len.ensures) in
+    let r : slice_get c.args.choices.now.items c.args.height ≡ Some (NoSuccess c.in-NoSuccess.cause c.in-NoSuccess.at) =
+    read_at c.args.height c.args.choices.now.items c.index_mut.result.now (NoSuccess c.in-NoSuccess.cause c.in-NoSuccess.at) (omega (arith, n, c.if-height-len.false)) c.index_mut.ensures.value
+    (sym c.in-NoSuccess.is ∙ c.replace.ensures.value) in
+    record {
+      stands =
+          λ ls ks f q. (
+            tt,
+            subst (λ l. (e : g.M.Machine.CauseTree) × Shows g.M.Machine.rest_rank (g.M.Machine.does c.args.machine.now) (g.M.Machine.state c.args.machine.now) (fails 0 e)
+                (Stack.alone c.args.height ∷ ks) (choices_of (g.M.Machine.told c.args.machine.now) ls l) f × HasFirst (choices_of (g.M.Machine.told c.args.machine.now) ls l))
+                (sym (set_twice c.args.height c.args.choices.now.items c.replace.new.dest (FirstSuccess c.in-NoSuccess.cause c.mark.result c.args.value c.in-NoSuccess.at)))
+                (first_found g.M.Machine.rest_rank (g.M.Machine.told c.args.machine.now) (g.M.Machine.does c.args.machine.now) (g.M.Machine.state c.args.machine.now) ls ks
+                c.args.choices.now.items f c.args.height c.args.value c.in-NoSuccess.cause c.in-NoSuccess.at c.mark.result r c.mark.ensures.state q),
+          );
+    }
+
+pub returns-in-FirstSuccess : goal.returns-in-FirstSuccess
+returns-in-FirstSuccess g c =
+    let n : c.len.result ≡ length c.args.choices.now.items = search (rules, c.len.ensures) in
+    let r : slice_get c.args.choices.now.items c.args.height ≡ Some (FirstSuccess c.in-FirstSuccess.cause c.in-FirstSuccess.field-1 c.in-FirstSuccess.field-2 c.in-FirstSuccess.field-3) =
+    read_at c.args.height c.args.choices.now.items c.index_mut.result.now
+    (FirstSuccess c.in-FirstSuccess.cause c.in-FirstSuccess.field-1 c.in-FirstSuccess.field-2 c.in-FirstSuccess.field-3)
+    (omega (arith, n, c.if-height-len.false)) c.index_mut.ensures.value (sym c.in-FirstSuccess.is ∙ c.replace.ensures.value) in
+    record {
+      stands =
+          λ ls ks f q. (
+            tt,
+            subst (λ l. Shows g.M.Machine.rest_rank (g.M.Machine.does c.args.machine.now) (g.M.Machine.state c.args.machine.now)
+                (fails 0 ((g.M.Machine.told c.args.machine.now).cause c.in-FirstSuccess.cause))
+                (Stack.alone c.args.height ∷ ks) (choices_of (g.M.Machine.told c.args.machine.now) ls l) f)
+                (sym (c.truncate.ensures.items ∙ take_set c.args.height c.args.choices.now.items c.replace.new.dest))
+                (second_found g.M.Machine.rest_rank (g.M.Machine.told c.args.machine.now) (g.M.Machine.does c.args.machine.now) (g.M.Machine.state c.args.machine.now) ls ks
+                c.args.choices.now.items f c.args.height c.args.value c.in-FirstSuccess.cause c.in-FirstSuccess.field-1 c.in-FirstSuccess.field-2 c.in-FirstSuccess.field-3 r q),
+          );
+    }
+
+pub returns-in_default : goal.returns-in_default
+returns-in_default g c =
+    let n : c.len.result ≡ length c.args.choices.now.items = search (rules, c.len.ensures) in
+    let r : slice_get c.args.choices.now.items c.args.height ≡ Some c.replace.result =
+    read_at c.args.height c.args.choices.now.items c.index_mut.result.now c.replace.result (omega (arith, n, c.if-height-len.false)) c.index_mut.ensures.value c.replace.ensures.value in
+    record {
+      stands =
+          λ ls ks f q. absurd (none_found g.M.Machine.rest_rank (g.M.Machine.told c.args.machine.now) (g.M.Machine.does c.args.machine.now) (g.M.Machine.state c.args.machine.now) ls ks
+          c.args.choices.now.items f c.args.height c.args.value c.replace.result r c.in_default.not-NoSuccess c.in_default.not-FirstSuccess q);
+    }
