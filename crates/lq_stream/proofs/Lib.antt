@@ -6,3 +6,4 @@ mod Switching
 mod SuccessArms
 mod Keeping
 mod SoleArms
+mod Later
