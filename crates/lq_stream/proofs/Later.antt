@@ -1,5 +1,5 @@
 -- A later machine reads both stacks alike.
-use Rattle.std.proofs.Common.{◌≡◌, ℕ, suc, List, [], ◌∷◌, ◌++◌, Some, None, refl, sym, ◌∙◌, ap, ap₂, subst}
+use Rattle.std.proofs.Common.{◌≡◌, ℕ, suc, List, [], ◌∷◌, ◌++◌, Some, None, refl, sym, ◌∙◌, ap, subst}
 use Rattle.lq_runs.specs.Machines.{Does}
 use Rattle.lq_runs.specs.Runs.{Run}
 use Rattle.lq_runs.specs.Stacks as Stacks

@@ -1,16 +1,18 @@
-use Rattle.std.proofs.Common.{rules, ◌≡◌, ◌∷◌, Some, length, slice_get, subst, sym, ◌∙◌, arith}
+use Rattle.std.proofs.Common.{◌≤◌, slice_set, rules, ◌≡◌, ◌∷◌, Some, length, slice_get, subst, sym, ◌∙◌, arith}
 use Rattle.lq_runs.specs.Stacks as Stack
 use Rattle.lq_runs.specs.Streams.{fails, Shows}
-use Rattle.lq_stream.specs.Holding.{HasFirst}
+use Rattle.lq_stream.specs.Holding.{HasFirst, IsChoice}
 use Rattle.lq_stream.specs.declared.stacks.Choice.TheVariants.{NoSuccess, FirstSuccess}
 use Rattle.lq_stream.specs.Reading.{choices_of}
 use Rattle.lq_stream.proofs.SoleArms.{read_at, set_twice, take_set, first_found, second_found, none_found, nothing_found}
+use Rattle.lq_stream.proofs.Switching.{get_holds, set_holds, take_keep}
 use Rattle.lq_stream.proofs.stream.found.Goals as goal
 
 pub returns-then-height-len : goal.returns-then-height-len
 returns-then-height-len g c =
     let n : c.len.result ≡ length c.args.choices.now.items = search (rules, c.len.ensures) in
     record {
+      keeps = λ n q. (q, c.requires.value);
       stands =
           λ ls ks f q. absurd (nothing_found g.M.Machine.rest_rank (g.M.Machine.told c.args.machine.now) (g.M.Machine.does c.args.machine.now) (g.M.Machine.state c.args.machine.now) ls ks
           c.args.choices.now.items f c.args.height c.args.value (omega (arith, n, c.if-height-len.true)) q);
@@ -23,6 +25,12 @@ returns-in-NoSuccess g c =
     read_at c.args.height c.args.choices.now.items c.index_mut.result.now (NoSuccess c.in-NoSuccess.cause c.in-NoSuccess.at) (omega (arith, n, c.if-height-len.false)) c.index_mut.ensures.value
     (sym c.in-NoSuccess.is ∙ c.replace.ensures.value) in
     record {
+      keeps = λ n q. (
+        set_holds (record { code = g.M.Machine.has_code c.args.machine.now; rest = g.M.Machine.has_rest c.args.machine.now; value = g.M.Machine.has_value c.args.machine.now; cause = g.M.Machine.has_cause c.args.machine.now; mark = g.M.Machine.knows c.args.machine.now }) n c.args.height (slice_set c.args.choices.now.items c.args.height c.replace.new.dest) (FirstSuccess c.in-NoSuccess.cause c.mark.result c.args.value c.in-NoSuccess.at)
+            (set_holds (record { code = g.M.Machine.has_code c.args.machine.now; rest = g.M.Machine.has_rest c.args.machine.now; value = g.M.Machine.has_value c.args.machine.now; cause = g.M.Machine.has_cause c.args.machine.now; mark = g.M.Machine.knows c.args.machine.now }) n c.args.height c.args.choices.now.items c.replace.new.dest q (subst (IsChoice (record { code = g.M.Machine.has_code c.args.machine.now; rest = g.M.Machine.has_rest c.args.machine.now; value = g.M.Machine.has_value c.args.machine.now; cause = g.M.Machine.has_cause c.args.machine.now; mark = g.M.Machine.knows c.args.machine.now }) n) (sym c.replace.ensures.after) tt))
+            (let p : g.M.Machine.has_cause c.args.machine.now c.in-NoSuccess.cause × (c.in-NoSuccess.at ≤ n) = get_holds (record { code = g.M.Machine.has_code c.args.machine.now; rest = g.M.Machine.has_rest c.args.machine.now; value = g.M.Machine.has_value c.args.machine.now; cause = g.M.Machine.has_cause c.args.machine.now; mark = g.M.Machine.knows c.args.machine.now }) n c.args.height c.args.choices.now.items (NoSuccess c.in-NoSuccess.cause c.in-NoSuccess.at) r q in (p.0, c.mark.ensures.known, c.requires.value, p.1)),
+        tt,
+      );
       stands =
           λ ls ks f q. (
             tt,
@@ -42,6 +50,10 @@ returns-in-FirstSuccess g c =
     (FirstSuccess c.in-FirstSuccess.cause c.in-FirstSuccess.field-1 c.in-FirstSuccess.field-2 c.in-FirstSuccess.field-3)
     (omega (arith, n, c.if-height-len.false)) c.index_mut.ensures.value (sym c.in-FirstSuccess.is ∙ c.replace.ensures.value) in
     record {
+      keeps = λ n q. (
+        take_keep (record { code = g.M.Machine.has_code c.args.machine.now; rest = g.M.Machine.has_rest c.args.machine.now; value = g.M.Machine.has_value c.args.machine.now; cause = g.M.Machine.has_cause c.args.machine.now; mark = g.M.Machine.knows c.args.machine.now }) n c.args.height c.args.choices.now.items c.truncate.new.self.items (c.truncate.ensures.items ∙ take_set c.args.height c.args.choices.now.items c.replace.new.dest) q,
+        (get_holds (record { code = g.M.Machine.has_code c.args.machine.now; rest = g.M.Machine.has_rest c.args.machine.now; value = g.M.Machine.has_value c.args.machine.now; cause = g.M.Machine.has_cause c.args.machine.now; mark = g.M.Machine.knows c.args.machine.now }) n c.args.height c.args.choices.now.items (FirstSuccess c.in-FirstSuccess.cause c.in-FirstSuccess.field-1 c.in-FirstSuccess.field-2 c.in-FirstSuccess.field-3) r q).0,
+      );
       stands =
           λ ls ks f q. (
             tt,
@@ -60,6 +72,12 @@ returns-in_default g c =
     let r : slice_get c.args.choices.now.items c.args.height ≡ Some c.replace.result =
     read_at c.args.height c.args.choices.now.items c.index_mut.result.now c.replace.result (omega (arith, n, c.if-height-len.false)) c.index_mut.ensures.value c.replace.ensures.value in
     record {
+      keeps = λ n q. (
+        set_holds (record { code = g.M.Machine.has_code c.args.machine.now; rest = g.M.Machine.has_rest c.args.machine.now; value = g.M.Machine.has_value c.args.machine.now; cause = g.M.Machine.has_cause c.args.machine.now; mark = g.M.Machine.knows c.args.machine.now }) n c.args.height (slice_set c.args.choices.now.items c.args.height c.replace.new.dest) c.replace.result
+            (set_holds (record { code = g.M.Machine.has_code c.args.machine.now; rest = g.M.Machine.has_rest c.args.machine.now; value = g.M.Machine.has_value c.args.machine.now; cause = g.M.Machine.has_cause c.args.machine.now; mark = g.M.Machine.knows c.args.machine.now }) n c.args.height c.args.choices.now.items c.replace.new.dest q (subst (IsChoice (record { code = g.M.Machine.has_code c.args.machine.now; rest = g.M.Machine.has_rest c.args.machine.now; value = g.M.Machine.has_value c.args.machine.now; cause = g.M.Machine.has_cause c.args.machine.now; mark = g.M.Machine.knows c.args.machine.now }) n) (sym c.replace.ensures.after) tt))
+            (get_holds (record { code = g.M.Machine.has_code c.args.machine.now; rest = g.M.Machine.has_rest c.args.machine.now; value = g.M.Machine.has_value c.args.machine.now; cause = g.M.Machine.has_cause c.args.machine.now; mark = g.M.Machine.knows c.args.machine.now }) n c.args.height c.args.choices.now.items c.replace.result r q),
+        c.requires.value,
+      );
       stands =
           λ ls ks f q. absurd (none_found g.M.Machine.rest_rank (g.M.Machine.told c.args.machine.now) (g.M.Machine.does c.args.machine.now) (g.M.Machine.state c.args.machine.now) ls ks
           c.args.choices.now.items f c.args.height c.args.value c.replace.result r c.in_default.not-NoSuccess c.in_default.not-FirstSuccess q);
