@@ -1,0 +1,126 @@
+//! Existential variables in order of making, and the values that they were given.
+
+ghost use Rattle.std.specs.Prelude.{◌≡◌, ◌<◌, ◌≤◌, ℕ, Some, None, [], ◌∷◌, ◌++◌, length, take, slice_get, option_map, OnOk, OnErr, IfOk, IfErr, Result, Ok, Err};
+ghost use Rattle.lq_terms.specs.Terms.{Terms, text_of, tree_of};
+ghost use Rattle.lq_terms.specs.Contexts.{context_of};
+ghost use Rattle.lq_terms.specs.declared.nodes.TermId.{TermId};
+ghost use Rattle.lq_solving.specs.Stores.{Variable as TreeVariable, no_variables, count, value, named_variable};
+ghost use Rattle.lq_solving.specs.Kept.{IsStore};
+ghost use Rattle.lq_evars.specs.declared.store.Variable.{Variable};
+ghost use Rattle.lq_evars.specs.Places.{Places, store_of, variable_of, value_at, number_of, HasStore, IsOwn};
+
+use indexmap::IndexMap;
+use lq_terms::{Context, NameId, TermId};
+use std::alloc::Global;
+use std::marker::Model;
+
+/// How many variables a store may have.
+const MOST_VARIABLES: usize = 16_777_216;
+
+/// Why a store does not answer.
+#[derive(Clone, Copy)]
+pub enum StoreFault {
+    /// A term as read has more than 1,000,000 nodes.
+    TooLarge,
+    /// A term as read fits in size, and is deeper than 2,000.
+    TooDeep,
+    /// There are 16,777,216 variables.
+    Full,
+    /// There was no memory.
+    NoMemory,
+}
+
+/// A variable: the hypotheses among which it stands, its type, its name if it has one.
+#[derive(Drop)]
+pub struct Variable {
+    pub(crate) context: Context,
+    pub(crate) kind: TermId,
+    pub(crate) name: Option<NameId>,
+}
+
+/// Variables by number, in order of making, and values in the order in which they were given. Contracts see both as lists.
+#[derive(Drop)]
+pub struct Store {
+    variables: Vec<Variable>,
+    /// The value of a variable by its number.
+    values: IndexMap<u32, TermId>,
+    /// The number of a variable by its name.
+    numbers: IndexMap<NameId, u32>,
+}
+
+impl Model for Store {
+    ghost use Rattle.std.specs.Prelude.{◌≡◌, ◌≤◌, length};
+    ghost use Rattle.lq_evars.specs.Places.{Places, numbers_from};
+
+    ghost Value = { Places };
+
+    ghost view = { λ s. record { variables = s.variables.items; values = s.values.entries } };
+
+    ghost invariant = { λ s. (s.numbers.entries ≡ numbers_from 0 s.variables.items) × (length s.variables.items ≤ 16777216) };
+}
+
+impl Store {
+    /// One with no variables.
+    pub fn new(alloc: Global) -> Store
+        ensures variables { result.variables ≡ [] }
+        ensures values { result.values ≡ [] }
+        ensures told { (bank : Terms) → store_of bank result ≡ no_variables }
+    {
+        Store {
+            variables: Vec::new(alloc),
+            values: IndexMap::new(alloc),
+            numbers: IndexMap::new(alloc),
+        }
+    }
+
+    /// How many variables there are. It takes no memory.
+    pub fn count(&self) -> u32
+        ensures length { result ≡ length self.now.variables }
+        ensures told { (bank : Terms) → result ≡ count (store_of bank self.now) }
+    {
+        self.variables.len() as u32
+    }
+
+    /// The number of the variable of that name, if there is one. It takes no memory.
+    pub fn named(&self, name: NameId) -> Option<u32>
+        ensures place { result ≡ number_of self.now name }
+        ensures told { (bank : Terms) → HasStore bank self.now → IsOwn bank name → result ≡ named_variable (store_of bank self.now) (text_of bank name) }
+    {
+        self.numbers.get(&name).copied()
+    }
+
+    /// The value of the variable of that number, if it has one. It takes no memory.
+    pub fn value(&self, id: u32) -> Option<TermId>
+        ensures place { result ≡ value_at self.now id }
+        ensures told { (bank : Terms) → IsStore (store_of bank self.now) → option_map (tree_of bank) result ≡ value (store_of bank self.now) id }
+    {
+        self.values.get(&id).copied()
+    }
+
+    /// The hypotheses among which a variable stands. It takes no memory.
+    pub fn context(&self, id: u32) -> &Context
+        requires { id < length self.now.variables }
+        ensures place { (v : Variable) → slice_get self.now.variables id ≡ Some v → result.now ≡ v.context }
+        ensures told { (bank : Terms) → (v : TreeVariable) → slice_get (store_of bank self.now).variables id ≡ Some v → context_of bank result.now ≡ v.context }
+    {
+        &self.variables[id as usize].context
+    }
+
+    /// A variable's type. It takes no memory.
+    pub fn kind(&self, id: u32) -> TermId
+        requires { id < length self.now.variables }
+        ensures place { (v : Variable) → slice_get self.now.variables id ≡ Some v → result ≡ v.kind }
+        ensures told { (bank : Terms) → (v : TreeVariable) → slice_get (store_of bank self.now).variables id ≡ Some v → tree_of bank result ≡ v.kind }
+    {
+        self.variables[id as usize].kind
+    }
+
+    /// A variable's name, if it has one. It takes no memory.
+    pub fn name(&self, id: u32) -> Option<NameId>
+        requires { id < length self.now.variables }
+        ensures place { (v : Variable) → slice_get self.now.variables id ≡ Some v → result ≡ v.name }
+        ensures told { (bank : Terms) → (v : TreeVariable) → slice_get (store_of bank self.now).variables id ≡ Some v → option_map (text_of bank) result ≡ v.name }
+    {
+        self.variables[id as usize].name
+    }
+}
