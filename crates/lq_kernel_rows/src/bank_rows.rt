@@ -1,7 +1,8 @@
 //! Rows over a bank of terms: `lift BY FROM in T = T`, `subst V in T = T`, `close a in T = T`, `open a in T = T`,
 //! `instance a V in T = T` with `V` for the hypothesis, `put BELOW a V in T = T`, `spread INSIDE P,P in T = T`, where
 //! an answer `yes` is that both are the same but for names of binders; `fresh a of a b = a0`, `same T = T`,
-//! `measure T = SIZE DEPTH`, `fits T`, `import T`, `name a`, `undo T`.
+//! `measure T = SIZE DEPTH`, `fits T`, `marks T = LOOSE yes no` with whether a hypothesis and
+//! whether an unknown stands in it, `twice T`, `import T`, `name a`, `undo T`.
 
 ghost use Rattle.std.specs.Prelude.{◌≡◌, ◌≤◌, IfOk};
 ghost use Rattle.std.specs.List.{AllByRecursion};
@@ -17,7 +18,8 @@ use crate::row::{Change, change_of, number, parted, yes};
 use crate::told::size_word;
 use lq_terms::{
     Bank, Context, Hypothesis, Instance, NameId, SizeFault, TermId, close, fits, fresh_name,
-    instance, lift, measure, open, put, same, spread, subst,
+    holds_hypothesis, holds_unknown, instance, lift, loose, measure, open, put, same, spread,
+    subst,
 };
 use lq_trees::Fit;
 use lq_words::{RowFault, build, reaches};
@@ -280,6 +282,31 @@ fn is_fitting(bank: &mut Bank<'_>, text: &str) -> Result<&'static str, RowFault>
     }
 }
 
+/// Whether a term has so many loose bound variables, and holds a hypothesis and an unknown or not.
+fn is_marked(bank: &mut Bank<'_>, text: &str) -> Result<&'static str, RowFault>
+    ensures { Grows bank.old bank.new }
+{
+    let (term, wanted) = parted(text, " = ")?;
+    let (count, wanted) = parted(wanted, " ")?;
+    let (hypothesis, unknown) = parted(wanted, " ")?;
+    let count = u64::from(number(count)?);
+    let term = build(bank, term)?;
+    let is_loose = loose(bank, term) == count;
+    let is_named = yes(holds_hypothesis(bank, term)) == hypothesis;
+    let is_unknown = yes(holds_unknown(bank, term)) == unknown;
+    Ok(yes(is_loose && is_named && is_unknown))
+}
+
+/// Whether a term that is made twice is one, which the second time adds nothing.
+fn is_made_once(bank: &mut Bank<'_>, text: &str) -> Result<&'static str, RowFault>
+    ensures { Grows bank.old bank.new }
+{
+    let first = build(bank, text)?;
+    let mark = bank.mark();
+    let second = build(bank, text)?;
+    Ok(yes(first == second && bank.mark() == mark))
+}
+
 /// Whether a name is kept once, with its text.
 fn is_kept_once(bank: &mut Bank<'_>, text: &str) -> Result<&'static str, RowFault>
     ensures { Grows bank.old bank.new }
@@ -348,7 +375,7 @@ pub(crate) fn is_of_bank(word: &str) -> bool {
     is_change(word)
         || matches!(
             word,
-            "same" | "measure" | "fits" | "import" | "name" | "undo" | "fresh"
+            "same" | "measure" | "fits" | "marks" | "twice" | "import" | "name" | "undo" | "fresh"
         )
 }
 
@@ -375,6 +402,8 @@ pub(crate) fn bank_row(
         "same" => compares(bank, text),
         "measure" => measures(bank, text),
         "fits" => is_fitting(bank, text),
+        "marks" => is_marked(bank, text),
+        "twice" => is_made_once(bank, text),
         "import" => imports(bank, text),
         "name" => is_kept_once(bank, text),
         "undo" => is_undone(bank, text),

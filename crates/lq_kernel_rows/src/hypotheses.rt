@@ -1,12 +1,13 @@
-//! Terms without loose bound variables, and hypotheses over them.
+//! Terms without loose bound variables, and hypotheses over them: `assume a : T`, `assume a : T := T`; and the name of a
+//! binder's variable below them: `under x = x0`.
 
 ghost use Rattle.std.specs.Prelude.{IfOk, OnOk};
 ghost use Rattle.lq_terms.specs.Terms.{Grows};
 ghost use Rattle.lq_kernel.specs.Closed.{IsScoped, IsBody, IsHypothesis, IsContext};
 
-use crate::row::parted;
+use crate::row::{parted, yes};
 use crate::told::write;
-use lq_terms::{Bank, Context, Hypothesis, TermId};
+use lq_terms::{Bank, Context, Hypothesis, TermId, name_under};
 use lq_words::{RowFault, build, is_scoped};
 
 /// A term without loose bound variables.
@@ -78,4 +79,21 @@ pub(crate) fn assume(
     let hypothesis = hypothesis(bank, text)?;
     push(bank, context, hypothesis)?;
     write(out, "assumed")
+}
+
+/// Whether the name of a binder's variable below the hypotheses is that one.
+#[tactic(auto, using(crate::proofs::Growing::growing))]
+pub(crate) fn under_row(
+    bank: &mut Bank<'_>,
+    context: &Context,
+    text: &str,
+    out: &mut String,
+) -> Result<(), RowFault>
+    requires { IsContext bank.old context.now }
+    ensures { Grows bank.old bank.new }
+{
+    let (binder, wanted) = parted(text, " = ")?;
+    let binder = bank.name(binder)?;
+    let found = name_under(bank, context.hypotheses(), binder)?;
+    write(out, yes(bank.text(found) == wanted))
 }

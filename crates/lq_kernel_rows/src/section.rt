@@ -7,7 +7,7 @@ ghost use Rattle.lq_kernel.specs.Closed.{IsContext};
 use crate::bank_rows::{bank_row, is_of_bank};
 use crate::declaring::{declare_row, is_declaring};
 use crate::env_rows::env_row;
-use crate::hypotheses::assume;
+use crate::hypotheses::{assume, under_row};
 use crate::priced::{is_priced, priced_row};
 use crate::row::parted;
 use crate::told::write;
@@ -52,6 +52,8 @@ fn answer(
     let (word, text) = parted(line, " ")?;
     if word == "assume" {
         assume(bank, context, text, out)
+    } else if word == "under" {
+        under_row(bank, context, text, out)
     } else if is_priced(word) {
         priced_row(bank, env, context, word, text, out)
     } else if is_declaring(word) {
