@@ -7,3 +7,4 @@ mod SuccessArms
 mod Keeping
 mod SoleArms
 mod Later
+mod PlaceArms
