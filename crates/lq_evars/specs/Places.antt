@@ -1,11 +1,12 @@
 -- A store by places of a bank, and the store over trees that it stands for.
-use Rattle.std.specs.Prelude.{◌≡◌, ◌==◌, ℕ, suc, List, [], ◌∷◌, map, Option, Some, None, option_map, if◌then◌else◌}
+use Rattle.std.specs.Prelude.{◌≡◌, ◌==◌, ℕ, zero, suc, List, [], ◌∷◌, ◌++◌, map, Result, Ok, Err, Option, Some, None, option_map, if◌then◌else◌}
 use Rattle.lq_terms.specs.declared.nodes.NameId.{NameId}
 use Rattle.lq_terms.specs.declared.nodes.TermId.{TermId}
 use Rattle.std.specs.List.{AllByRecursion}
 use Rattle.lq_terms.specs.Terms.{Terms, HasName, HasTerm, text_of, tree_of}
 use Rattle.lq_terms.specs.Contexts.{HasContext, context_of}
-use Rattle.lq_solving.specs.Stores.{Variable as TreeVariable, Assigned, Store as TreeStore}
+use Rattle.lq_solving.specs.Stores.{Variable as TreeVariable, Assigned, Store as TreeStore, StoreFault as TreeFault, store_full}
+use Rattle.lq_evars.specs.declared.store.StoreFault.{StoreFault}
 use Rattle.lq_evars.specs.declared.store.Variable.{Variable}
 
 -- the variables in order of making, and the numbers and values in the order in which they were given
@@ -77,3 +78,30 @@ pub record HasStore (bank : Terms) (s : Places) : Type 0 where
 pub record IsOwn (bank : Terms) (x : NameId) : Type 0 where
   pub has : HasName bank x
   pub apart : (other : NameId) → HasName bank other → text_of bank other ≡ text_of bank x → other ≡ x
+
+-- one variable more
+abbrev pub one_more : Places → Variable → Places
+one_more s v = record { variables = s.variables ++ v ∷ []; values = s.values }
+
+-- no variable has that name, if there is one
+abbrev pub IsNewName : Places → Option NameId → Type 0
+IsNewName s None = Unit {0}
+IsNewName s (Some x) = number_of s x ≡ None
+
+-- The answer of a new variable is the definition's, and the store then is. Memory may end at any time.
+abbrev pub Makes : Terms → Result ℕ StoreFault → Places → Result (TreeStore × ℕ) TreeFault → Type 0
+Makes bank (Ok k) new r = r ≡ Ok (store_of bank new, k)
+Makes bank (Err StoreFault.TooLarge) new r = ⊥
+Makes bank (Err StoreFault.TooDeep) new r = ⊥
+Makes bank (Err StoreFault.Full) new r = r ≡ Err store_full
+Makes bank (Err StoreFault.NoMemory) new r = Unit {0}
+
+-- the variables with another type for number k
+abbrev pub kind_put : List Variable → ℕ → TermId → List Variable
+kind_put [] k t = []
+kind_put (v ∷ vs) zero t = record { context = v.context; kind = t; name = v.name } ∷ vs
+kind_put (v ∷ vs) (suc k) t = v ∷ kind_put vs k t
+
+-- the store with another type for variable k
+abbrev pub kind_changed : Places → ℕ → TermId → Places
+kind_changed s k t = record { variables = kind_put s.variables k t; values = s.values }

@@ -1,21 +1,22 @@
 //! Existential variables in order of making, and the values that they were given.
 
-ghost use Rattle.std.specs.Prelude.{◌≡◌, ◌<◌, ◌≤◌, ℕ, Some, None, [], ◌∷◌, ◌++◌, length, take, slice_get, option_map, OnOk, OnErr, IfOk, IfErr, Result, Ok, Err};
+ghost use Rattle.std.specs.Prelude.{◌≡◌, ◌<◌, Some, [], length, slice_get, option_map, OnOk, OnErr, IfOk, IfErr};
+ghost use Rattle.lq_evars.specs.declared.store.StoreFault.{StoreFault};
 ghost use Rattle.lq_terms.specs.Terms.{Terms, text_of, tree_of};
 ghost use Rattle.lq_terms.specs.Contexts.{context_of};
 ghost use Rattle.lq_terms.specs.declared.nodes.TermId.{TermId};
-ghost use Rattle.lq_solving.specs.Stores.{Variable as TreeVariable, no_variables, count, value, named_variable};
+ghost use Rattle.lq_solving.specs.Stores.{Variable as TreeVariable, no_variables, count, value, named_variable, new_variable, with_kind};
 ghost use Rattle.lq_solving.specs.Kept.{IsStore};
 ghost use Rattle.lq_evars.specs.declared.store.Variable.{Variable};
-ghost use Rattle.lq_evars.specs.Places.{Places, store_of, variable_of, value_at, number_of, HasStore, IsOwn};
+ghost use Rattle.lq_evars.specs.Places.{Places, store_of, variable_of, value_at, number_of, HasStore, IsOwn, IsNewName, Makes, one_more, kind_changed};
 
 use indexmap::IndexMap;
-use lq_terms::{Context, NameId, TermId};
+use lq_terms::{Context, NameId, NoMemory, TermId};
 use std::alloc::Global;
 use std::marker::Model;
 
 /// How many variables a store may have.
-const MOST_VARIABLES: usize = 16_777_216;
+const MOST_VARIABLES: u32 = 16_777_216;
 
 /// Why a store does not answer.
 #[derive(Clone, Copy)]
@@ -28,6 +29,16 @@ pub enum StoreFault {
     Full,
     /// There was no memory.
     NoMemory,
+}
+
+impl From<NoMemory> for StoreFault {
+    ghost use Rattle.lq_evars.specs.declared.store.StoreFault.{StoreFault};
+
+    ghost from_gives = { λ _ e. e ≡ StoreFault.NoMemory };
+
+    fn from(_: NoMemory) -> StoreFault {
+        StoreFault::NoMemory
+    }
 }
 
 /// A variable: the hypotheses among which it stands, its type, its name if it has one.
@@ -61,16 +72,16 @@ impl Model for Store {
 
 impl Store {
     /// One with no variables.
-    pub fn new(alloc: Global) -> Store
-        ensures variables { result.variables ≡ [] }
-        ensures values { result.values ≡ [] }
-        ensures told { (bank : Terms) → store_of bank result ≡ no_variables }
+    pub fn new(alloc: Global) -> Result<Store, NoMemory>
+        ensures variables { IfOk result (λ s. s.variables ≡ []) }
+        ensures values { IfOk result (λ s. s.values ≡ []) }
+        ensures told { IfOk result (λ s. (bank : Terms) → store_of bank s ≡ no_variables) }
     {
-        Store {
+        Ok(Store {
             variables: Vec::new(alloc),
             values: IndexMap::new(alloc),
             numbers: IndexMap::new(alloc),
-        }
+        })
     }
 
     /// How many variables there are. It takes no memory.
@@ -84,7 +95,8 @@ impl Store {
     /// The number of the variable of that name, if there is one. It takes no memory.
     pub fn named(&self, name: NameId) -> Option<u32>
         ensures place { result ≡ number_of self.now name }
-        ensures told { (bank : Terms) → HasStore bank self.now → IsOwn bank name → result ≡ named_variable (store_of bank self.now) (text_of bank name) }
+        ensures told { (bank : Terms) → HasStore bank self.now → IsOwn bank name
+            → result ≡ named_variable (store_of bank self.now) (text_of bank name) }
     {
         self.numbers.get(&name).copied()
     }
@@ -101,7 +113,8 @@ impl Store {
     pub fn context(&self, id: u32) -> &Context
         requires { id < length self.now.variables }
         ensures place { (v : Variable) → slice_get self.now.variables id ≡ Some v → result.now ≡ v.context }
-        ensures told { (bank : Terms) → (v : TreeVariable) → slice_get (store_of bank self.now).variables id ≡ Some v → context_of bank result.now ≡ v.context }
+        ensures told { (bank : Terms) → (v : TreeVariable) → slice_get (store_of bank self.now).variables id ≡ Some v
+            → context_of bank result.now ≡ v.context }
     {
         &self.variables[id as usize].context
     }
@@ -110,7 +123,8 @@ impl Store {
     pub fn kind(&self, id: u32) -> TermId
         requires { id < length self.now.variables }
         ensures place { (v : Variable) → slice_get self.now.variables id ≡ Some v → result ≡ v.kind }
-        ensures told { (bank : Terms) → (v : TreeVariable) → slice_get (store_of bank self.now).variables id ≡ Some v → tree_of bank result ≡ v.kind }
+        ensures told { (bank : Terms) → (v : TreeVariable) → slice_get (store_of bank self.now).variables id ≡ Some v
+            → tree_of bank result ≡ v.kind }
     {
         self.variables[id as usize].kind
     }
@@ -119,8 +133,78 @@ impl Store {
     pub fn name(&self, id: u32) -> Option<NameId>
         requires { id < length self.now.variables }
         ensures place { (v : Variable) → slice_get self.now.variables id ≡ Some v → result ≡ v.name }
-        ensures told { (bank : Terms) → (v : TreeVariable) → slice_get (store_of bank self.now).variables id ≡ Some v → option_map (text_of bank) result ≡ v.name }
+        ensures told { (bank : Terms) → (v : TreeVariable) → slice_get (store_of bank self.now).variables id ≡ Some v
+            → option_map (text_of bank) result ≡ v.name }
     {
         self.variables[id as usize].name
+    }
+
+    /// One more variable, whose number is the count before. No variable has its name. It is refused as full exactly where
+    /// there are 16,777,216 variables; after a refusal the store is as before.
+    pub fn new_var(
+        &mut self,
+        context: Context,
+        kind: TermId,
+        name: Option<NameId>,
+    ) -> Result<u32, StoreFault>
+        requires { IsNewName self.old name }
+        ensures added { OnOk result (self.new ≡ one_more self.old (record { context = context; kind = kind; name = name })) }
+        ensures kept { OnErr result (self.new ≡ self.old) }
+        ensures told { (bank : Terms)
+            → Makes bank result self.new (new_variable (store_of bank self.old) (variable_of bank (record { context = context; kind = kind; name = name }))) }
+    {
+        let id = self.count();
+        if id >= MOST_VARIABLES {
+            return Err(StoreFault::Full);
+        }
+        self.add_variable(Variable {
+            context,
+            kind,
+            name,
+        })?;
+        Ok(id)
+    }
+
+    /// One more variable: the one change that adds variables.
+    fn add_variable(&mut self, variable: Variable) -> Result<(), NoMemory>
+        requires new { IsNewName self.old variable.name }
+        requires room { length self.old.variables < 16777216 }
+        ensures ok { OnOk result (self.new ≡ one_more self.old variable) }
+        ensures err { OnErr result (self.new ≡ self.old) }
+    {
+        let place = self.variables.len();
+        let name = variable.name;
+        self.variables.push(variable)?;
+        let Some(name) = name else {
+            return Ok(());
+        };
+        match self.numbers.insert(name, place as u32) {
+            Ok(_) => Ok(()),
+            Err(_) => {
+                self.variables.truncate(place);
+                Err(NoMemory)
+            }
+        }
+    }
+
+    /// A variable's type is that term from now on. The only refusal is for want of memory, after which the store is as before.
+    pub fn set_kind(&mut self, id: u32, kind: TermId) -> Result<(), StoreFault>
+        requires { id < length self.old.variables }
+        ensures changed { OnOk result (self.new ≡ kind_changed self.old id kind) }
+        ensures kept { OnErr result (self.new ≡ self.old) }
+        ensures refused { IfErr result (λ f. f ≡ StoreFault.NoMemory) }
+        ensures told { OnOk result ((bank : Terms) → store_of bank self.new ≡ with_kind (store_of bank self.old) id (tree_of bank kind)) }
+    {
+        self.put_kind(id, kind);
+        Ok(())
+    }
+
+    /// Another type for a variable: the one change of a type.
+    fn put_kind(&mut self, id: u32, kind: TermId)
+        requires { id < length self.old.variables }
+        ensures changed { self.new ≡ kind_changed self.old id kind }
+        ensures told { (bank : Terms) → store_of bank self.new ≡ with_kind (store_of bank self.old) id (tree_of bank kind) }
+    {
+        self.variables[id as usize].kind = kind;
     }
 }
