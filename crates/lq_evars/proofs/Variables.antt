@@ -1,14 +1,19 @@
 -- What a change of the variables does to the numbers of names, and to the store over trees.
 use Rattle.std.proofs.Common.{◌≡◌, ◌<◌, ◌≤◌, ◌+◌, ◌∙◌, sym, refl, ap, ap₂, subst, arith, append-nil, ℕ, zero, suc, Bool, true, false, List, [], ◌∷◌, ◌++◌, map, length, Ok, Err, Option, Some, None, leb, le-leb, leb-true, slice_set, slice_index_or}
-use Rattle.std.specs.Prelude.{if◌then◌else◌, ◌==◌}
+use Rattle.std.specs.Prelude.{if◌then◌else◌, ◌==◌, option_map}
 use Rattle.std.proofs.lemmas.List.{length-append, length-map, map-append}
 use Rattle.indexmap.specs.IndexMap.{insert_entry}
+use Rattle.lq_trees.specs.Tree.{Name}
 use Rattle.lq_terms.specs.declared.nodes.NameId.{NameId}
 use Rattle.lq_terms.specs.declared.nodes.TermId.{TermId}
-use Rattle.lq_terms.specs.Terms.{Terms, tree_of}
-use Rattle.lq_solving.specs.Stores.{Variable as TreeVariable, new_variable, with_variable, with_kind, kind_set, store_full, count}
+use Rattle.lq_terms.specs.Terms.{Terms, text_of, tree_of}
+use Rattle.lq_solving.specs.Stores.{Variable as TreeVariable, new_variable, with_variable, with_kind, kind_set, store_full, count, named_variable}
+use Rattle.lq_solving.specs.Kept.{IsStore, IsVariable}
+use Rattle.lq_solving.proofs.StoreLaws.{more_store}
+use Rattle.lq_solving.proofs.Readings.{none_some}
 use Rattle.lq_evars.specs.declared.store.Variable.{Variable}
-use Rattle.lq_evars.specs.Places.{Places, store_of, variable_of, numbered, numbers_from, number_in, one_more, kind_put, kind_changed}
+use Rattle.lq_evars.specs.Places.{Places, store_of, variable_of, numbered, numbers_from, number_in, one_more, kind_put, kind_changed, HasStore, IsOwnOr, IsNewName}
+use Rattle.lq_evars.proofs.Lookups.{numbers_told, some_is}
 
 -- a new name goes last
 module _ (x : NameId) (n : ℕ) (eq : NameId → NameId → Bool) (is_place : (y : NameId) → eq x y ≡ (x.place == y.place)) where
@@ -103,3 +108,12 @@ kind_told bank s k t = ap (λ vs. record { variables = vs; values = (store_of ba
 -- there is room for one more
 pub room_left : (vs : List Variable) (v : Variable) → length vs < 16777216 → length (vs ++ v ∷ []) ≤ 16777216
 room_left vs v h = let e = length-append vs (v ∷ []) in omega (arith, e, h)
+
+-- a store with a variable more is one as the calls keep it
+pub more_stands : (bank : Terms) (s : Places) (v : Variable) → HasStore bank s → IsStore (store_of bank s) → IsVariable (store_of bank s) (variable_of bank v) →
+    IsOwnOr bank v.name → IsNewName s v.name → IsStore (store_of bank (one_more s v))
+more_stands bank s v h i w own new = subst IsStore (more_told bank s v) (more_store (store_of bank s) (variable_of bank v) i w (names v.name own new))
+  where
+    names : (o : Option NameId) → IsOwnOr bank o → IsNewName s o → (x : Name) → option_map (text_of bank) o ≡ Some x → named_variable (store_of bank s) x ≡ None
+    names None own new x e = absurd (none_some refl e)
+    names (Some y) own new x e = subst (λ z. named_variable (store_of bank s) z ≡ None) (some_is e) (sym (numbers_told bank s y h own) ∙ new)

@@ -105,3 +105,8 @@ kind_put (v ∷ vs) (suc k) t = v ∷ kind_put vs k t
 -- the store with another type for variable k
 abbrev pub kind_changed : Places → ℕ → TermId → Places
 kind_changed s k t = record { variables = kind_put s.variables k t; values = s.values }
+
+-- the name is one of the bank's own, if there is one
+abbrev pub IsOwnOr : Terms → Option NameId → Type 0
+IsOwnOr bank None = Unit {0}
+IsOwnOr bank (Some x) = IsOwn bank x

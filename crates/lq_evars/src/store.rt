@@ -6,9 +6,9 @@ ghost use Rattle.lq_terms.specs.Terms.{Terms, text_of, tree_of};
 ghost use Rattle.lq_terms.specs.Contexts.{context_of};
 ghost use Rattle.lq_terms.specs.declared.nodes.TermId.{TermId};
 ghost use Rattle.lq_solving.specs.Stores.{Variable as TreeVariable, no_variables, count, value, named_variable, new_variable, with_kind};
-ghost use Rattle.lq_solving.specs.Kept.{IsStore};
+ghost use Rattle.lq_solving.specs.Kept.{IsStore, IsVariable, StandsIn};
 ghost use Rattle.lq_evars.specs.declared.store.Variable.{Variable};
-ghost use Rattle.lq_evars.specs.Places.{Places, store_of, variable_of, value_at, number_of, HasStore, IsOwn, IsNewName, Makes, one_more, kind_changed};
+ghost use Rattle.lq_evars.specs.Places.{Places, store_of, variable_of, value_at, number_of, HasStore, IsOwn, IsOwnOr, IsNewName, Makes, one_more, kind_changed};
 
 use indexmap::IndexMap;
 use lq_terms::{Context, NameId, NoMemory, TermId};
@@ -152,6 +152,9 @@ impl Store {
         ensures kept { OnErr result (self.new ≡ self.old) }
         ensures told { (bank : Terms)
             → Makes bank result self.new (new_variable (store_of bank self.old) (variable_of bank (record { context = context; kind = kind; name = name }))) }
+        ensures stands { (bank : Terms) → HasStore bank self.old → IsStore (store_of bank self.old)
+            → IsVariable (store_of bank self.old) (variable_of bank (record { context = context; kind = kind; name = name })) → IsOwnOr bank name
+            → OnOk result (IsStore (store_of bank self.new)) }
     {
         let id = self.count();
         if id >= MOST_VARIABLES {
@@ -194,6 +197,10 @@ impl Store {
         ensures kept { OnErr result (self.new ≡ self.old) }
         ensures refused { IfErr result (λ f. f ≡ StoreFault.NoMemory) }
         ensures told { OnOk result ((bank : Terms) → store_of bank self.new ≡ with_kind (store_of bank self.old) id (tree_of bank kind)) }
+        ensures stands { (bank : Terms) → IsStore (store_of bank self.old)
+            → ((v : TreeVariable) → slice_get (store_of bank self.old).variables id ≡ Some v
+            → StandsIn (store_of bank self.old) v.context (tree_of bank kind))
+            → OnOk result (IsStore (store_of bank self.new)) }
     {
         self.put_kind(id, kind);
         Ok(())
