@@ -1,7 +1,8 @@
 -- Look-ups by key, as a map finds, and as the definitions do.
-use Rattle.std.proofs.Common.{◌≡◌, ◌<◌, ◌∙◌, sym, refl, ap, subst, ℕ, suc, Bool, true, false, cond, List, [], ◌∷◌, map, length, Option, Some, None, eqb, eqb-true, eq-eqb}
+use Rattle.std.proofs.Common.{◌≡◌, ◌<◌, ◌∙◌, sym, refl, ap, ap₂, subst, ℕ, suc, Bool, true, false, cond, List, [], ◌∷◌, map, length, take, Option, Some, None, eqb, eqb-true, eq-eqb}
 use Rattle.std.specs.Prelude.{if◌then◌else◌, ◌==◌, option_map, slice_get}
 use Rattle.std.specs.Map.{lookup}
+use Rattle.std.proofs.Math.Seq.{take-append_seam}
 use Rattle.std.specs.List.{AllByRecursion}
 use Rattle.std.proofs.lemmas.Slice.Eq.{bytes_eq-Decides}
 use Rattle.std.proofs.lemmas.Option.{slice_get-map}
@@ -14,7 +15,7 @@ use Rattle.lq_solving.specs.Kept.{Sound, IsStore}
 use Rattle.lq_solving.proofs.InstanceLaws.{same_is}
 use Rattle.lq_solving.proofs.Readings.{none_some}
 use Rattle.lq_evars.specs.declared.store.Variable.{Variable}
-use Rattle.lq_evars.specs.Places.{Places, store_of, variable_of, assigned_of, values_from, value_in, numbered, numbers_from, number_in, HasNameOr, HasVariable, HasStore, IsOwn, number_of, value_at}
+use Rattle.lq_evars.specs.Places.{Places, store_of, variable_of, assigned_of, values_from, value_in, numbered, numbers_from, number_in, HasNameOr, HasVariable, HasStore, GivesMore, IsOwn, number_of, value_at}
 
 module _ (x : NameId) (test : NameId → Bool) (is_place : (y : NameId) → test y ≡ (x.place == y.place)) where
   pub number_by : (es : List (NameId × ℕ)) → lookup test es ≡ number_in es x
@@ -168,3 +169,9 @@ variable_back bank s k v h e = by (slice_get s.variables k) refl
     by : (o : Option Variable) → slice_get s.variables k ≡ o → (w : Variable) × (o ≡ Some w) × (v ≡ variable_of bank w)
     by (Some w) i = (w, refl, some_is (sym e ∙ variable_told bank s k w i))
     by None i = absurd (none_some (slice_get-map (variable_of bank) s.variables k ∙ ap (option_map (variable_of bank)) i) e)
+
+-- the values that were given since are taken back
+pub taken_back : (old new : Places) (n : ℕ) → GivesMore old new → n ≡ length old.values → record { variables = new.variables; values = take n new.values } ≡ old
+taken_back old new n m e =
+    ap₂ (λ vs as_. record { variables = vs; values = as_ }) m.variables
+    (ap (λ k. take k new.values) e ∙ ap (take (length old.values)) m.values ∙ take-append_seam old.values m.more)

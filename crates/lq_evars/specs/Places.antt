@@ -110,3 +110,9 @@ kind_changed s k t = record { variables = kind_put s.variables k t; values = s.v
 abbrev pub IsOwnOr : Terms → Option NameId → Type 0
 IsOwnOr bank None = Unit {0}
 IsOwnOr bank (Some x) = IsOwn bank x
+
+-- the new store has the variables of the old one, and values behind those of the old one
+pub record GivesMore (old new : Places) : Type 0 where
+  pub variables : new.variables ≡ old.variables
+  pub more : List (ℕ × TermId)
+  pub values : new.values ≡ old.values ++ more

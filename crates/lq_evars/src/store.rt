@@ -1,6 +1,6 @@
 //! Existential variables in order of making, and the values that they were given.
 
-ghost use Rattle.std.specs.Prelude.{◌≡◌, ◌<◌, Some, [], length, slice_get, option_map, OnOk, OnErr, IfOk, IfErr};
+ghost use Rattle.std.specs.Prelude.{◌≡◌, ◌<◌, Some, [], length, take, slice_get, option_map, OnOk, OnErr, IfOk, IfErr};
 ghost use Rattle.lq_evars.specs.declared.store.StoreFault.{StoreFault};
 ghost use Rattle.lq_terms.specs.Terms.{Terms, text_of, tree_of};
 ghost use Rattle.lq_terms.specs.Contexts.{context_of};
@@ -8,7 +8,8 @@ ghost use Rattle.lq_terms.specs.declared.nodes.TermId.{TermId};
 ghost use Rattle.lq_solving.specs.Stores.{Variable as TreeVariable, no_variables, count, value, named_variable, new_variable, with_kind};
 ghost use Rattle.lq_solving.specs.Kept.{IsStore, IsVariable, StandsIn};
 ghost use Rattle.lq_evars.specs.declared.store.Variable.{Variable};
-ghost use Rattle.lq_evars.specs.Places.{Places, store_of, variable_of, value_at, number_of, HasStore, IsOwn, IsOwnOr, IsNewName, Makes, one_more, kind_changed};
+ghost use Rattle.lq_evars.specs.Places.{Places, store_of, variable_of, value_at, number_of, HasStore, IsOwn, IsOwnOr, IsNewName};
+ghost use Rattle.lq_evars.specs.Places.{GivesMore, Makes, one_more, kind_changed};
 
 use indexmap::IndexMap;
 use lq_terms::{Context, NameId, NoMemory, TermId};
@@ -213,5 +214,22 @@ impl Store {
         ensures told { (bank : Terms) → store_of bank self.new ≡ with_kind (store_of bank self.old) id (tree_of bank kind) }
     {
         self.variables[id as usize].kind = kind;
+    }
+
+    /// How many values were given. It takes no memory.
+    pub fn given(&self) -> usize
+        ensures { result ≡ length self.now.values }
+    {
+        self.values.len()
+    }
+
+    /// The store as it was when so many values were given, where only values were given since: the one change that takes values
+    /// back. It takes no memory, and the time of what it takes back.
+    pub fn take_back(&mut self, given: usize)
+        ensures variables { self.new.variables ≡ self.old.variables }
+        ensures values { self.new.values ≡ take given self.old.values }
+        ensures back { (before : Places) → GivesMore before self.old → given ≡ length before.values → self.new ≡ before }
+    {
+        self.values.truncate(given);
     }
 }
