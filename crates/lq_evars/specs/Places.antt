@@ -1,5 +1,6 @@
 -- A store by places of a bank, and the store over trees that it stands for.
-use Rattle.std.specs.Prelude.{◌≡◌, ◌==◌, ℕ, zero, suc, List, [], ◌∷◌, ◌++◌, map, Result, Ok, Err, Option, Some, None, option_map, if◌then◌else◌}
+use Rattle.std.specs.Prelude.{◌≡◌, ◌==◌, ℕ, zero, suc, List, [], ◌∷◌, ◌++◌, map, slice_get, Result, Ok, Err, Option, Some, None, option_map, if◌then◌else◌}
+use Rattle.lq_terms.specs.declared.nodes.Hypothesis.{Hypothesis}
 use Rattle.lq_terms.specs.declared.nodes.NameId.{NameId}
 use Rattle.lq_terms.specs.declared.nodes.TermId.{TermId}
 use Rattle.std.specs.List.{AllByRecursion}
@@ -116,3 +117,13 @@ pub record GivesMore (old new : Places) : Type 0 where
   pub variables : new.variables ≡ old.variables
   pub more : List (ℕ × TermId)
   pub values : new.values ≡ old.values ++ more
+
+-- a value with the hypotheses of its variable
+abbrev pub body_in : Option TermId → Option Variable → Option (List Hypothesis × TermId)
+body_in None v = None
+body_in (Some t) None = None
+body_in (Some t) (Some v) = Some (v.context, t)
+
+-- what the store tells of a variable's value
+abbrev pub body_at : Places → ℕ → Option (List Hypothesis × TermId)
+body_at s k = body_in (value_at s k) (slice_get s.variables k)

@@ -12,7 +12,7 @@ ghost use Rattle.lq_evars.specs.Places.{Places, store_of, variable_of, value_at,
 ghost use Rattle.lq_evars.specs.Places.{GivesMore, Makes, one_more, kind_changed};
 
 use indexmap::IndexMap;
-use lq_terms::{Context, NameId, NoMemory, TermId};
+use lq_terms::{Bodies, Context, NameId, NoMemory, TermId};
 use std::alloc::Global;
 use std::marker::Model;
 
@@ -231,5 +231,19 @@ impl Store {
         ensures back { (before : Places) → GivesMore before self.old → given ≡ length before.values → self.new ≡ before }
     {
         self.values.truncate(given);
+    }
+}
+
+impl Bodies for Store {
+    ghost use Rattle.lq_evars.specs.Places.{body_at};
+
+    ghost value_of = { body_at };
+
+    fn body(&self, variable: u32) -> Option<(&Context, TermId)> {
+        let value = self.value(variable)?;
+        match self.variables.get(variable as usize) {
+            Some(known) => Some((&known.context, value)),
+            None => None,
+        }
     }
 }
