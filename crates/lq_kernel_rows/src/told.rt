@@ -43,7 +43,71 @@ pub(crate) fn write_sort(bank: &Bank<'_>, sort: Sort, out: &mut String) -> Resul
     }
 }
 
+/// Writes a constructor.
+fn write_constructor(
+    bank: &Bank<'_>,
+    name: NameId,
+    index: u32,
+    out: &mut String,
+) -> Result<(), RowFault>
+    requires { HasName bank.now name }
+{
+    let text = format!(in bank.allocator(); "{}:{index} ", bank.text(name))?;
+    out.push_str(&text)?;
+    Ok(())
+}
+
+/// Writes an eliminator.
+fn write_eliminator(
+    bank: &Bank<'_>,
+    name: NameId,
+    sort: Sort,
+    out: &mut String,
+) -> Result<(), RowFault>
+    requires { HasName bank.now name }
+{
+    out.push_str(bank.text(name))?;
+    out.push('!')?;
+    write_sort(bank, sort, out)
+}
+
+/// Writes a word and two terms. It calls itself as deep as these are.
+#[cycle(told)]
+fn write_two(
+    bank: &Bank<'_>,
+    word: &str,
+    first: TermId,
+    second: TermId,
+    out: &mut String,
+) -> Result<(), RowFault>
+    requires first { HasTerm bank.now first }
+    requires second { HasTerm bank.now second }
+{
+    write(out, word)?;
+    write_term(bank, first, out)?;
+    write_term(bank, second, out)
+}
+
+/// Writes a local definition: its value, and then its kind and the rest.
+#[cycle(told)]
+fn write_definition(
+    bank: &Bank<'_>,
+    value: TermId,
+    kind: TermId,
+    rest: TermId,
+    out: &mut String,
+) -> Result<(), RowFault>
+    requires value { HasTerm bank.now value }
+    requires kind { HasTerm bank.now kind }
+    requires rest { HasTerm bank.now rest }
+{
+    write(out, "let ")?;
+    write_term(bank, value, out)?;
+    write_two(bank, "", kind, rest, out)
+}
+
 /// Writes a term in the words that rows write it in. It calls itself as deep as the term is.
+#[cycle(told)]
 fn write_term(bank: &Bank<'_>, term: TermId, out: &mut String) -> Result<(), RowFault>
     requires { HasTerm bank.now term }
 {
@@ -53,38 +117,13 @@ fn write_term(bank: &Bank<'_>, term: TermId, out: &mut String) -> Result<(), Row
         Node::Sort(sort) => write_sort(bank, *sort, out),
         Node::Const(name) => write_name(bank, "=", *name, out),
         Node::Ind(name) => write_name(bank, "", *name, out),
-        Node::Ctor(name, index) => {
-            let text = format!(in bank.allocator(); "{}:{index} ", bank.text(*name))?;
-            out.push_str(&text)?;
-            Ok(())
-        }
-        Node::Elim(name, sort) => {
-            out.push_str(bank.text(*name))?;
-            out.push('!')?;
-            write_sort(bank, *sort, out)
-        }
+        Node::Ctor(name, index) => write_constructor(bank, *name, *index, out),
+        Node::Elim(name, sort) => write_eliminator(bank, *name, *sort, out),
         Node::Evar(number, _) => write_number(bank, "?", u64::from(*number), out),
-        Node::Let(_, value, kind, rest) => {
-            out.push_str("let ")?;
-            write_term(bank, *value, out)?;
-            write_term(bank, *kind, out)?;
-            write_term(bank, *rest, out)
-        }
-        Node::Prod(_, kind, rest) => {
-            out.push_str("-> ")?;
-            write_term(bank, *kind, out)?;
-            write_term(bank, *rest, out)
-        }
-        Node::Lam(_, kind, body) => {
-            out.push_str("fun ")?;
-            write_term(bank, *kind, out)?;
-            write_term(bank, *body, out)
-        }
-        Node::App(function, argument) => {
-            out.push_str("@ ")?;
-            write_term(bank, *function, out)?;
-            write_term(bank, *argument, out)
-        }
+        Node::Let(_, value, kind, rest) => write_definition(bank, *value, *kind, *rest, out),
+        Node::Prod(_, kind, rest) => write_two(bank, "-> ", *kind, *rest, out),
+        Node::Lam(_, kind, body) => write_two(bank, "fun ", *kind, *body, out),
+        Node::App(function, argument) => write_two(bank, "@ ", *function, *argument, out),
     }
 }
 
