@@ -1,0 +1,6 @@
+pub mod Opening
+pub mod RowsSettled
+pub mod PrimsSettled
+pub mod Playing
+pub mod Examples
+pub mod MatchExamples
