@@ -1,6 +1,7 @@
 pub mod Opening
 pub mod RowsSettled
 pub mod PrimsSettled
+pub mod RulesSettled
 pub mod Playing
 pub mod Examples
 pub mod MatchExamples

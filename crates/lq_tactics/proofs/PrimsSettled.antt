@@ -25,7 +25,7 @@ abbrev goal_row : Scene → ℕ → ℕ → Doing Done
 goal_row c number k = goal_inductive c >>= has_number number >>= λ d. apply_constructor c d k
 
 module _ (n m b : ℕ) (i : b < n) (j : b < m) where
-  product_agree : (c : Scene) (x y : Name) (A B : Tree) → Agree b (under_product (at n c) x y A B) (under_product (at m c) x y A B)
+  pub product_agree : (c : Scene) (x y : Name) (A B : Tree) → Agree b (under_product (at n c) x y A B) (under_product (at m c) x y A B)
   unfolding under_product
   product_agree c x y A B = agree_bind b _ _ _ _ (new_goal_agree n m b i j c c.store _ _) (λ r. agree_refl b _)
 
@@ -50,7 +50,7 @@ module _ (n m b : ℕ) (i : b < n) (j : b < m) where
   intro_on_agree c w (Elim x s) = agree_refl b _
   intro_on_agree c w (Evar k ts) = agree_refl b _
 
-  do_intro_agree : (c : Scene) (w : Option Name) → Agree b (do_intro (at n c) w) (do_intro (at m c) w)
+  pub do_intro_agree : (c : Scene) (w : Option Name) → Agree b (do_intro (at n c) w) (do_intro (at m c) w)
   unfolding do_intro binder_form
   do_intro_agree c w = agree_bind b _ _ _ _ (by (is_binder c.kind)) (λ t. intro_on_agree c w t)
     where
