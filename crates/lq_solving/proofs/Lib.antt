@@ -1,6 +1,7 @@
 pub mod TrailLaws
 pub mod InferLaws
 pub mod UnifySettled
+pub mod WaitingLaws
 pub mod ElabSettled
 pub mod Opening
 pub mod Examples
