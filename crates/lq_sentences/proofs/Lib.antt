@@ -7,7 +7,17 @@ pub mod PlaceLaws
 pub mod SentencePlaces
 pub mod Settling
 pub mod Computing
+pub mod ShapeLaws
+pub mod FailLaws
+pub mod FailLoops
+pub mod RisingLaws
 mod Trying
 mod TreeRows
 mod LongRows
 mod ScriptRows
+
+-- mod TermRows
+-- mod CommandRows
+-- mod TacticRows
+-- mod PrimitiveRows
+-- mod FaultRows
