@@ -15,9 +15,8 @@ mod Trying
 mod TreeRows
 mod LongRows
 mod ScriptRows
-
--- mod TermRows
--- mod CommandRows
--- mod TacticRows
--- mod PrimitiveRows
--- mod FaultRows
+mod TermRows
+mod CommandRows
+mod TacticRows
+mod PrimitiveRows
+mod FaultRows
