@@ -20,3 +20,4 @@ mod CommandRows
 mod TacticRows
 mod PrimitiveRows
 mod FaultRows
+mod NestRows
