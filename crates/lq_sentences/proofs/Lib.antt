@@ -11,6 +11,7 @@ pub mod ShapeLaws
 pub mod FailLaws
 pub mod FailLoops
 pub mod RisingLaws
+pub mod Completing
 mod Trying
 mod TreeRows
 mod LongRows
