@@ -12,6 +12,8 @@ pub mod FailLaws
 pub mod FailLoops
 pub mod RisingLaws
 pub mod Completing
+pub mod LiveParts
+pub mod LiveTerms
 mod Trying
 mod TreeRows
 mod LongRows
