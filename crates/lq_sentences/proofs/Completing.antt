@@ -180,12 +180,17 @@ module _ {A B : Type 0} (p q : Rule A) (f g : A → Rule B) (w : Word) where
             ∙ n.3 other i,
       )
 
-pub both_live : {A B : Type 0} {u m w : Word} {p q : Rule A} {f g : A → Rule B} → Live u p q m → ((a : A) → Live m (f a) (g a) w) → Live u (both p f) (both q g) w
-both_live {u = u} {m = m} {w = w} {p = p} {q = q} {f = f} {g = g} l h = record {
-  kept = λ ws. kept_then (read p ws) (read q ws) _ _ (l.kept ws) (λ y e. (h y.0).kept y.1);
-  fresh = both_fresh p q f g w u m l.fresh (λ a. (h a).fresh);
-  inside = λ v vs o. both_inside p q f g w m (v ∷ vs) l.kept (λ a. (h a).fresh) (l.inside v vs) (λ a x xs e i. (h a).inside x xs i) o;
+-- a second part that counts where the first one is read
+pub both_next : {A B : Type 0} {u m w : Word} {p q : Rule A} {f g : A → Rule B} → Live u p q m →
+    ((a : A) (ws rest : Words) → read p ws ≡ Ok (a, rest) → Live m (f a) (g a) w) → ((a : A) → Fresh m (g a) w) → Live u (both p f) (both q g) w
+both_next {u = u} {m = m} {w = w} {p = p} {q = q} {f = f} {g = g} l h c = record {
+  kept = λ ws. kept_then (read p ws) (read q ws) _ _ (l.kept ws) (λ y e. (h y.0 ws y.1 e).kept y.1);
+  fresh = both_fresh p q f g w u m l.fresh c;
+  inside = λ v vs o. both_inside p q f g w m (v ∷ vs) l.kept c (l.inside v vs) (λ a x xs e i. (h a (v ∷ vs) (x ∷ xs) e).inside x xs i) o;
 }
+
+pub both_live : {A B : Type 0} {u m w : Word} {p q : Rule A} {f g : A → Rule B} → Live u p q m → ((a : A) → Live m (f a) (g a) w) → Live u (both p f) (both q g) w
+both_live l h = both_next l (λ a ws rest e. h a) (λ a. (h a).fresh)
 
 pub map_live : {A B : Type 0} {u w : Word} {p q : Rule A} (f : A → B) → Live u p q w → Live u (f <$> p) (f <$> q) w
 map_live {w = w} f l = both_live l (λ a. pure_live (f a) w)
@@ -346,3 +351,47 @@ module _ {A : Type 0} (n m : ℕ) (test : A → Word → Bool) (body other_body 
     fresh = loop_fresh a;
     inside = λ v vs o. loop_inside (length vs) a v vs (omega arith) o;
   }
+
+-- ---- where no level is left
+
+-- a rule refuses each word that does not pass a test, and asks for one where the words end
+pub record Refuses {A : Type 0} (test : Word → Bool) (q : Rule A) : Type 0 where
+  pub at_end : read q [] ≡ Err ended
+  pub at_word : (w : Word × ℕ) (ws : Words) → test w.0 ≡ false → read q (w ∷ ws) ≡ Err (unexpected w.1)
+
+module _ {A : Type 0} (test : Word → Bool) (f : Word × ℕ → A) where
+  none_kept : (q : Rule A) → Refuses test q → (ws : Words) → Kept (read (f <$> word 0 test) ws) (read q ws)
+  unfolding read_word
+  none_kept q r [] = r.at_end
+  none_kept q r (w ∷ ws) = by (test w.0) refl
+    where
+      by : (b : Bool) → test w.0 ≡ b → Kept (and_then (elim b as (λ _. Read (Word × ℕ)) [ true ↦ Err (too_nested w.1) | false ↦ Err (unexpected w.1) ]) (λ x us. Ok (f x, us))) (read q (w ∷ ws))
+      by true e = tt
+      by false e = r.at_word w ws e
+
+  none_open : (v : Word × ℕ) (vs : Words) → IsOpen (read (f <$> word 0 test) (v ∷ vs)) → ⊥
+  unfolding read_word
+  none_open v vs o = by (test v.0) o
+    where
+      by : (b : Bool) → IsOpen (and_then (elim b as (λ _. Read (Word × ℕ)) [ true ↦ Err (too_nested v.1) | false ↦ Err (unexpected v.1) ]) (λ x us. Ok (f x, us))) → ⊥
+      by true o = o
+      by false o = o
+
+  -- the rule without levels takes no word
+  pub none_live : {u w : Word} {q : Rule A} → Fresh u q w → Refuses test q → Live u (f <$> word 0 test) q w
+  none_live {q = q} c r = record {
+    kept = none_kept q r;
+    fresh = c;
+    inside = λ v vs o. absurd (none_open v vs o);
+  }
+
+  -- so one that is read has levels
+  pub reached : (n : ℕ) (ws : Words) (y : A × Words) → read (f <$> word n test) ws ≡ Ok y → 0 < n
+  unfolding read_word
+  reached (suc n) ws y e = omega arith
+  reached zero [] y e = absurd cc
+  reached zero (w ∷ ws) y e = by (test w.0) e
+    where
+      by : (b : Bool) → and_then (elim b as (λ _. Read (Word × ℕ)) [ true ↦ Err (too_nested w.1) | false ↦ Err (unexpected w.1) ]) (λ x us. Ok (f x, us)) ≡ Ok y → 0 < 0
+      by true e = absurd cc
+      by false e = absurd cc

@@ -14,6 +14,7 @@ pub mod RisingLaws
 pub mod Completing
 pub mod LiveParts
 pub mod LiveTerms
+pub mod LiveLevels
 mod Trying
 mod TreeRows
 mod LongRows
