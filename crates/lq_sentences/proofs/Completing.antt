@@ -277,6 +277,26 @@ pub when_alive : {A : Type 0} {w : Word} {p q r s : Rule A} (b : Bool) → Alive
 when_alive true k l = k
 when_alive false k l = l
 
+pub when_live : {A : Type 0} {u w : Word} {p q r s : Rule A} (b : Bool) → Live u p q w → Live u r s w → Live u (when b p r) (when b q s) w
+when_live true k l = k
+when_live false k l = l
+
+-- a choice whose test no word passes
+never : {A : Type 0} (p r : Rule A) (ws : Words) → read (choose (λ x. false) p r) ws ≡ read r ws
+unfolding sees
+never p r [] = refl
+never p r (v ∷ vs) = refl
+
+pub choose_never : {A : Type 0} {u w : Word} {p q r s : Rule A} → Live u r s w → Live u (choose (λ x. false) p r) (choose (λ x. false) q s) w
+choose_never {w = w} {p = p} {q = q} {r = r} {s = s} k = record {
+  kept = λ ws. never_kept ws;
+  fresh = (let c = k.fresh in (c.0, c.1, c.2, λ other i. never q s (c.0 ++ other) ∙ c.3 other i));
+  inside = λ v vs o. (let c = k.inside v vs (subst IsOpen (never p r (v ∷ vs)) o) in (c.0, c.1, λ other i. never q s ((v ∷ vs) ++ (c.0 ++ other)) ∙ c.2 other i));
+}
+  where
+    never_kept : (ws : Words) → Kept (read (choose (λ x. false) p r) ws) (read (choose (λ x. false) q s) ws)
+    never_kept ws = subst (λ t. Kept t (read (choose (λ x. false) q s) ws)) (sym (never p r ws)) (subst (λ t. Kept (read r ws) t) (sym (never q s ws)) (k.kept ws))
+
 -- ---- loops
 
 module _ {A : Type 0} (n m : ℕ) (test : A → Word → Bool) (body other_body : A → Word × ℕ → Rule A) (w : Word) (room : Room n m) (ends : (b : A) → test b w ≡ false)
@@ -395,3 +415,6 @@ module _ {A : Type 0} (test : Word → Bool) (f : Word × ℕ → A) where
       by : (b : Bool) → and_then (elim b as (λ _. Read (Word × ℕ)) [ true ↦ Err (too_nested w.1) | false ↦ Err (unexpected w.1) ]) (λ x us. Ok (f x, us)) ≡ Ok y → 0 < 0
       by true e = absurd cc
       by false e = absurd cc
+
+pub word_reached : (n : ℕ) (test : Word → Bool) (ws : Words) (y : (Word × ℕ) × Words) → read_word n test ws ≡ Ok y → 0 < n
+word_reached n test ws y e = reached test (λ x. x) n ws y (ap (λ r. and_then r (λ x us. Ok (x, us))) e)

@@ -15,6 +15,8 @@ pub mod Completing
 pub mod LiveParts
 pub mod LiveTerms
 pub mod LiveLevels
+pub mod LivePatterns
+pub mod LiveMatches
 mod Trying
 mod TreeRows
 mod LongRows
