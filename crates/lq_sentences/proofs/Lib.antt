@@ -17,6 +17,9 @@ pub mod LiveTerms
 pub mod LiveLevels
 pub mod LivePatterns
 pub mod LiveMatches
+pub mod LiveArguments
+pub mod LivePrimitives
+pub mod LiveTactics
 mod Trying
 mod TreeRows
 mod LongRows

@@ -1,0 +1,1 @@
+-- Ltac expressions with more levels: what is begun is completed.
