@@ -1,8 +1,8 @@
 -- A rule and the same rule with more levels: what the first reads the second reads, and where the words of the first only end, the second goes on.
-use Rattle.std.proofs.Common.{◌≡◌, ℕ, zero, suc, ◌+◌, ◌≤◌, ◌<◌, Bool, true, false, [], ◌∷◌, ◌++◌, length, Ok, Err, refl, sym, ap, subst, ◌∙◌, arith, inl, inr, append_assoc}
+use Rattle.std.proofs.Common.{◌≡◌, ℕ, zero, suc, ◌+◌, ◌≤◌, ◌<◌, Bool, true, false, [], ◌∷◌, ◌++◌, length, Ok, Err, refl, sym, ap, subst, ◌∙◌, arith, append_assoc}
 use Rattle.lq_sentences.specs.Words.{Word, Words}
-use Rattle.lq_sentences.specs.Rules.{Rule, pure, word, both, choose, loop, when, ◌<$>◌, sees, Stop, unexpected, too_nested, ended, Read, and_then, read_word, read}
-use Rattle.lq_sentences.proofs.RuleLaws.{choice, chosen_true, chosen_false}
+use Rattle.lq_sentences.specs.Rules.{Rule, pure, word, both, choose, loop, when, ◌<$>◌, sees, unexpected, too_nested, ended, Read, and_then, read_word, read}
+use Rattle.lq_sentences.proofs.RuleLaws.{chosen_true, chosen_false}
 use Rattle.lq_sentences.proofs.LoopLaws.{loop_again, loop_done, read_shorter, word_takes, word_passes}
 use Rattle.lq_sentences.proofs.WordLaws.{word_right, sees_next}
 use Rattle.lq_sentences.proofs.FaultLaws.{Local, local}
@@ -128,10 +128,9 @@ module _ {A B : Type 0} (p q : Rule A) (f g : A → Rule B) (w : Word) where
   second a vs = read (g a) vs
 
   -- a second part from nothing, behind words that complete the first
-  then_fresh : (m : Word) (ws : Words) → ((a : A) → Fresh m (g a) w) → Completed q m ws → Completed (both q g) w ws
+  pub then_fresh : (m : Word) (ws : Words) → ((a : A) → Fresh m (g a) w) → Completed q m ws → Completed (both q g) w ws
   then_fresh m ws h c =
-      let n = h c.1 in
-      (
+      let n = h c.1 in (
         c.0 ++ n.0,
         n.1,
         λ other i.
@@ -143,8 +142,7 @@ module _ {A B : Type 0} (p q : Rule A) (f g : A → Rule B) (w : Word) where
   -- words that the first part leaves, which the second completes
   then_inside : (ws : Words) (a : A) (x : Word × ℕ) (xs : Words) → read q ws ≡ Ok (a, x ∷ xs) → Completed (g a) w (x ∷ xs) → Completed (both q g) w ws
   then_inside ws a x xs e c =
-      let l = subst (Local (read q) ws) e (local q ws) in
-      (
+      let l = subst (Local (read q) ws) e (local q ws) in (
         c.0,
         c.1,
         λ other i.
@@ -169,8 +167,7 @@ module _ {A B : Type 0} (p q : Rule A) (f g : A → Rule B) (w : Word) where
   -- both parts from nothing
   both_fresh : (u m : Word) → Fresh u q m → ((a : A) → Fresh m (g a) w) → Fresh u (both q g) w
   both_fresh u m c h =
-      let n = h c.1 in
-      (
+      let n = h c.1 in (
         c.0 ++ n.0,
         n.1,
         λ other i. subst (Begins u) (sym (append_assoc c.0 n.0 other)) (c.2 (n.0 ++ other) (n.2 other i)),
@@ -200,13 +197,12 @@ pub word_then : {B : Type 0} {w : Word} {f g : Word × ℕ → Rule B} (u : Word
     ((x : Word × ℕ) → test x.0 ≡ true → Alive (f x) (g x) w) → Live u (both (word n test) f) (both (word m test) g) w
 word_then {B = B} {w = w} {f = f} {g = g} u n m test r e h = record {
   kept = λ ws. kept_then (read_word n test ws) (read_word m test ws) _ _ (word_kept n m test ws r) (λ y i. (h y.0 (word_passes n test ws y.0 y.1 i)).1.kept y.1);
-  fresh = (let c = (h (u, 0) e).1.fresh in
-      (
-        (u, 0) ∷ c.0,
-        c.1,
-        λ other i. (0, c.0 ++ other, refl),
-        λ other i. takes (u, 0) (c.0 ++ other) e ∙ c.3 other i,
-      ));
+  fresh = (let c = (h (u, 0) e).1.fresh in (
+    (u, 0) ∷ c.0,
+    c.1,
+    λ other i. (0, c.0 ++ other, refl),
+    λ other i. takes (u, 0) (c.0 ++ other) e ∙ c.3 other i,
+  ));
   inside = λ v vs o. (let t = word_goes n test v vs (λ x us. read (f x) us) o in behind v vs t.0 t.1);
 }
   where

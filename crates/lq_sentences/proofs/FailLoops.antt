@@ -18,7 +18,7 @@ other_way (inl e) = inr e
 other_way (inr e) = inl e
 
 -- the further of two reasons is one of them
-further_one : (d f : Stop) → (further d f ≡ d) ⊎ (further d f ≡ f)
+pub further_one : (d f : Stop) → (further d f ≡ d) ⊎ (further d f ≡ f)
 further_one ended f = inl refl
 further_one (unexpected m) ended = inr refl
 further_one (too_nested m) ended = inr refl

@@ -20,6 +20,8 @@ pub mod LiveMatches
 pub mod LiveArguments
 pub mod LivePrimitives
 pub mod LiveTactics
+pub mod LiveCommands
+pub mod LeastPlace
 mod Trying
 mod TreeRows
 mod LongRows

@@ -1,20 +1,18 @@
 -- Messages, arguments and lists of expressions with more levels: what is begun is completed.
-use Rattle.std.proofs.Common.{◌≡◌, ℕ, suc, ◌+◌, ◌-◌, ◌≤◌, ◌<◌, Bool, true, false, List, [], ◌∷◌, ◌++◌, Ok, refl, arith}
-use Rattle.std.specs.Prelude.{codes, ◌&&◌, Option, Some, None}
+use Rattle.std.proofs.Common.{◌≡◌, ℕ, ◌+◌, ◌≤◌, Bool, true, false, [], refl, arith}
+use Rattle.std.specs.Prelude.{codes, ◌&&◌, None}
 use Rattle.lq_grammar.specs.declared.token.Symbol.TheVariants.{Arrow, Bars, Colon, Semicolon, Plus, Bar, Dots, OpenRound, CloseRound, OpenSquare, CloseSquare}
 use Rattle.lq_trees.specs.Tree.{Name}
-use Rattle.lq_ast.specs.Syntax.{Surface, Ident}
-use Rattle.lq_ast.specs.Tactics.{Tac, Tacs, Arg, term_arg, args_of}
-use Rattle.lq_ast.specs.Tactics as form
-use Rattle.lq_sentences.specs.Words.{Word, Words, name, symbol, is_name, is_number, is_sign, reads, value_of}
-use Rattle.lq_sentences.specs.Rules.{Rule, pure, word, choose, ◌>>=◌, ◌<$>◌}
+use Rattle.lq_ast.specs.Tactics.{Tac, Tacs, term_arg}
+use Rattle.lq_sentences.specs.Words.{Word, symbol, is_number, is_sign, reads}
+use Rattle.lq_sentences.specs.Rules.{Rule}
 use Rattle.lq_sentences.specs.Parts.{eat, is_spare}
-use Rattle.lq_sentences.specs.Terms.{term, begins_argument, atom_at}
-use Rattle.lq_sentences.specs.Levels.{Level, Here, spot}
-use Rattle.lq_sentences.specs.Arguments.{begins_message, message_word, messages, is_amount, amount, begins_amount, begins_part, part_word, parts, failure, behind_ltac, argument_at, begins_arg, call, listed, Places, with_place, is_unfilled, one_place, branches}
-use Rattle.lq_sentences.proofs.Completing.{Live, Alive, Room, room_up, alive, pure_live, both_live, map_live, word_live, choose_first, choose_other, choose_never, when_alive, loop_live}
+use Rattle.lq_sentences.specs.Terms.{term, begins_argument}
+use Rattle.lq_sentences.specs.Levels.{Level, spot}
+use Rattle.lq_sentences.specs.Arguments.{begins_message, message_word, messages, is_amount, begins_amount, begins_part, part_word, parts, failure, behind_ltac, argument_at, begins_arg, call, listed, Places, is_unfilled, one_place, branches}
+use Rattle.lq_sentences.proofs.Completing.{Live, Alive, Room, alive, pure_live, both_live, map_live, word_live, choose_first, choose_other, choose_never, when_alive, loop_live}
 use Rattle.lq_sentences.proofs.LiveParts.{testing, x_word, zero_word, expect_live, eat_live, maybe_live, many_live, separated_live}
-use Rattle.lq_sentences.proofs.LiveTerms.{Terms, atom_at_live}
+use Rattle.lq_sentences.proofs.LiveTerms.{atom_at_live}
 use Rattle.lq_sentences.proofs.LiveLevels.{term_live}
 use Rattle.lq_sentences.proofs.LiveMatches.{here}
 
@@ -41,13 +39,37 @@ Tactics a b = (e : Name) (w : Word) → TacEnds e w → Live x_word (a e) (b e) 
 pub round_ends : TacEnds [] (symbol CloseRound)
 unfolding testing
 round_ends = record {
-  arg = refl; argument = refl; message = refl; amount = refl; part = refl; spare = refl; numeral = refl; colon = refl; arrow = refl; plus = refl; bars = refl; semicolon = refl; names = refl
+  arg = refl;
+  argument = refl;
+  message = refl;
+  amount = refl;
+  part = refl;
+  spare = refl;
+  numeral = refl;
+  colon = refl;
+  arrow = refl;
+  plus = refl;
+  bars = refl;
+  semicolon = refl;
+  names = refl;
 }
 
 pub square_ends : TacEnds [] (symbol CloseSquare)
 unfolding testing
 square_ends = record {
-  arg = refl; argument = refl; message = refl; amount = refl; part = refl; spare = refl; numeral = refl; colon = refl; arrow = refl; plus = refl; bars = refl; semicolon = refl; names = refl
+  arg = refl;
+  argument = refl;
+  message = refl;
+  amount = refl;
+  part = refl;
+  spare = refl;
+  numeral = refl;
+  colon = refl;
+  arrow = refl;
+  plus = refl;
+  bars = refl;
+  semicolon = refl;
+  names = refl;
 }
 
 module _ (n m : ℕ) (h : n + 3 ≤ m) (b c : Level) (e : Name) (tacs : Tactics b.tac c.tac) where

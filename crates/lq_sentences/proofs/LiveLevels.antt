@@ -1,15 +1,15 @@
 -- Terms of one number of levels and of at least two more: what is begun with the first is completed with the second.
-use Rattle.std.proofs.Common.{◌≡◌, ℕ, zero, suc, ◌+◌, ◌-◌, ◌≤◌, ◌<◌, Bool, true, false, List, [], ◌∷◌, ◌++◌, Ok, Err, refl, sym, ap, subst, ◌∙◌, arith}
+use Rattle.std.proofs.Common.{◌≡◌, ℕ, zero, suc, ◌+◌, ◌-◌, ◌≤◌, ◌<◌, Bool, true, false, [], ◌∷◌, Ok, Err, refl, ap, ◌∙◌, arith}
 use Rattle.std.specs.Prelude.{codes, ◌||◌}
-use Rattle.lq_grammar.specs.declared.token.Symbol.TheVariants.{Arrow as ArrowSign, CloseRound, CloseSquare}
+use Rattle.lq_grammar.specs.declared.token.Symbol.TheVariants.{Arrow as ArrowSign}
 use Rattle.lq_ast.specs.Syntax.{Surface, Ident, PropSort, applied}
-use Rattle.lq_sentences.specs.Words.{Word, Words, symbol, is_name, is_sign, reads}
-use Rattle.lq_sentences.specs.Rules.{Rule, word, choose, ◌<$>◌, sees, Stop, unexpected, too_nested, ended, Read, and_then, read_word, read}
-use Rattle.lq_sentences.specs.Terms.{Spot, begins_atom, begins_term, begins_argument, atom_at, atom, arguments, arrow_behind, arrow_term, term_in, no_term, levels, term, no_atom, atom_level, term_behind}
-use Rattle.lq_sentences.proofs.RuleLaws.{choice, chosen_true, chosen_false}
+use Rattle.lq_sentences.specs.Words.{Word, Words, is_sign, reads}
+use Rattle.lq_sentences.specs.Rules.{Rule, sees, unexpected, ended, and_then, read}
+use Rattle.lq_sentences.specs.Terms.{Spot, begins_atom, begins_term, begins_argument, atom_at, atom, arrow_behind, arrow_term, term_in, no_term, levels, term, atom_level, term_behind}
+use Rattle.lq_sentences.proofs.RuleLaws.{chosen_false}
 use Rattle.lq_sentences.proofs.LoopLaws.{many_done}
 use Rattle.lq_sentences.proofs.WordLaws.{word_ended, word_wrong, word_right, sees_next}
-use Rattle.lq_sentences.proofs.Completing.{Kept, IsOpen, Begins, Fresh, Live, Alive, Room, room_up, alive, pure_live, both_live, map_live, choose_other, Refuses, none_live}
+use Rattle.lq_sentences.proofs.Completing.{Begins, Fresh, Live, Room, Refuses, none_live}
 use Rattle.lq_sentences.proofs.LiveParts.{testing, x_word}
 use Rattle.lq_sentences.proofs.LiveTerms.{TermEnds, Terms, atom_live, arrow_term_live, term_in_live}
 
@@ -82,8 +82,7 @@ levels_live zero (suc zero) h = absurd (omega arith)
 levels_live zero (suc (suc k)) h = (no_term_live (suc k) (suc k - 1) (levels (suc k)).0 (levels (suc k)).1, no_term_live k (k - 1) (levels k).0 (levels k).1)
 levels_live (suc n) zero h = absurd (omega arith)
 levels_live (suc n) (suc m) h =
-    let l = levels_live n m (omega arith) in
-    (
+    let l = levels_live n m (omega arith) in (
       λ c w e. term_in_live n m (n - 1) (m - 1) (omega arith, omega arith) (omega arith, omega arith) (levels n).0 (levels m).0 (levels n).1 (levels m).1 l.0 l.1 c w e,
       l.0,
     )

@@ -1,21 +1,21 @@
 -- Matches with more levels: what is begun is completed.
-use Rattle.std.proofs.Common.{◌≡◌, ℕ, suc, ◌+◌, ◌-◌, ◌≤◌, ◌<◌, Bool, true, false, List, [], ◌∷◌, Ok, refl, arith}
+use Rattle.std.proofs.Common.{ℕ, ◌+◌, ◌<◌, List, [], ◌∷◌, refl, arith}
 use Rattle.std.specs.Prelude.{codes}
 use Rattle.lq_grammar.specs.declared.token.Symbol.TheVariants.{FatArrow, Turnstile, Colon, Comma, Bar, Underscore, OpenRound}
 use Rattle.lq_trees.specs.Tree.{Name}
 use Rattle.lq_ast.specs.declared.tac.Manner.{Manner}
-use Rattle.lq_ast.specs.Syntax.{Surface, Ident, Blank, Pattern}
-use Rattle.lq_ast.specs.Tactics.{Tac, Hyp, Clause}
-use Rattle.lq_sentences.specs.Words.{Word, Words, name, symbol, is_name, is_sign, reads, text_of}
-use Rattle.lq_sentences.specs.Rules.{Rule, pure, word, choose, ◌>>=◌, ◌<$>◌}
+use Rattle.lq_ast.specs.Syntax.{Blank, Pattern}
+use Rattle.lq_ast.specs.Tactics.{Hyp}
+use Rattle.lq_sentences.specs.Words.{Word, name, symbol, is_name, is_sign, reads, text_of}
+use Rattle.lq_sentences.specs.Rules.{Rule, ◌>>=◌}
 use Rattle.lq_sentences.specs.Parts.{a_name}
 use Rattle.lq_sentences.specs.Levels.{Level, Here}
-use Rattle.lq_sentences.specs.Patterns.{free_spot, whole_behind, behind_name, pattern}
-use Rattle.lq_sentences.specs.Matches.{Mode, on_goal, on_term, on_either, hyp_behind, hyp, right_side, conclusion, hyps_behind, sequent_behind, sequent, pattern_behind, clause_behind_blank, clause_behind_name, clause_in, clause, Clauses, one_more, clauses, head_behind_reverse, head_behind_constr, match_head, match_form}
+use Rattle.lq_sentences.specs.Patterns.{free_spot, whole_behind, pattern}
+use Rattle.lq_sentences.specs.Matches.{Mode, on_goal, on_term, on_either, hyp_behind, hyp, right_side, conclusion, hyps_behind, sequent_behind, sequent, pattern_behind, clause_behind_blank, clause_behind_name, clause_in, clause, one_more, clauses, head_behind_reverse, head_behind_constr, match_head, match_form}
 use Rattle.lq_sentences.proofs.Completing.{Live, Alive, Room, room_up, alive, pure_live, both_next, both_live, map_live, word_live, choose_first, choose_other, loop_live, reached, word_reached}
-use Rattle.lq_sentences.proofs.LiveParts.{testing, x_word, expect_live, expect_word_live, behind_live, eat_live, many_live, a_name_live, a_binder_live}
+use Rattle.lq_sentences.proofs.LiveParts.{testing, x_word, expect_live, expect_word_live, eat_live, many_live, a_name_live, a_binder_live}
 use Rattle.lq_sentences.proofs.LiveLevels.{atom_level_live}
-use Rattle.lq_sentences.proofs.LivePatterns.{Deep, deep_room, PatternEnds, round_live, whole_live, name_live, pattern_live}
+use Rattle.lq_sentences.proofs.LivePatterns.{Deep, deep_room, round_live, whole_live, name_live, pattern_live}
 
 abbrev pub end_word : Word
 end_word = name (codes "end")

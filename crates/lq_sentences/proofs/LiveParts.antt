@@ -1,14 +1,14 @@
 -- The rules that others are put together from, with more levels.
-use Rattle.std.proofs.Common.{◌≡◌, ℕ, ◌+◌, Bool, true, false, List, [], ◌∷◌, ◌++◌, Ok, Err, refl, sym, ap, ◌∙◌}
-use Rattle.std.specs.Prelude.{codes, Option, Some, None}
+use Rattle.std.proofs.Common.{◌≡◌, ℕ, Bool, true, false, List, [], ◌∷◌, ◌++◌, refl}
+use Rattle.std.specs.Prelude.{codes, Some, None}
 use Rattle.std.proofs.lemmas.Slice.Eq.{bytes_eq-Decides}
 use Rattle.lq_grammar.specs.declared.token.Symbol.{Symbol}
 use Rattle.lq_grammar.specs.declared.token.Symbol.TheVariants as sign
-use Rattle.lq_trees.specs.Tree.{Name, same_name}
-use Rattle.lq_sentences.specs.Words.{Word, Words, name, number, quoted, symbol, is_name, is_number, is_quoted, same_symbol, is_sign, reads}
-use Rattle.lq_sentences.specs.Rules.{Rule, Stop, unexpected, too_nested, ended, Read, and_then, read_word, read, word, ◌<$>◌}
+use Rattle.lq_trees.specs.Tree.{Name}
+use Rattle.lq_sentences.specs.Words.{Word, name, number, symbol, is_name, is_number, is_quoted, same_symbol, is_sign, reads}
+use Rattle.lq_sentences.specs.Rules.{Rule, ◌<$>◌}
 use Rattle.lq_sentences.specs.Parts.{expect, expect_word, behind, eat, maybe, many, some, separated, a_name, names, some_names, a_number, is_binder, a_binder, some_binders}
-use Rattle.lq_sentences.proofs.Completing.{Kept, IsOpen, Fresh, Live, Alive, Room, alive, pure_live, both_live, map_live, word_then, word_live, choose_other, loop_live}
+use Rattle.lq_sentences.proofs.Completing.{Live, Alive, Room, alive, pure_live, both_live, map_live, word_then, word_live, choose_other, loop_live}
 
 -- what opens when a word is tested
 unfoldable pub testing : Unit {0}

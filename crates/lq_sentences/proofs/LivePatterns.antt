@@ -1,13 +1,13 @@
 -- Patterns with more levels: what is begun is completed.
-use Rattle.std.proofs.Common.{◌≡◌, ℕ, suc, ◌+◌, ◌-◌, ◌≤◌, ◌<◌, Bool, true, false, [], ◌∷◌, Ok, refl, arith}
+use Rattle.std.proofs.Common.{◌≡◌, ℕ, ◌+◌, ◌-◌, ◌≤◌, ◌<◌, false, refl, arith}
 use Rattle.std.specs.Prelude.{codes, Option, Some, None}
 use Rattle.lq_grammar.specs.declared.token.Symbol.TheVariants.{OpenRound, CloseRound, OpenSquare, CloseSquare}
 use Rattle.lq_trees.specs.Tree.{Name, same_name}
-use Rattle.lq_ast.specs.Syntax.{Surface, Applied, Ident, Pattern, whole_pattern, context_pattern}
-use Rattle.lq_sentences.specs.Words.{Word, Words, symbol, is_name, is_sign, reads}
+use Rattle.lq_ast.specs.Syntax.{Surface, Applied, Ident, whole_pattern, context_pattern}
+use Rattle.lq_sentences.specs.Words.{Word, symbol, is_name, is_sign, reads}
 use Rattle.lq_sentences.specs.Terms.{Spot}
 use Rattle.lq_sentences.specs.Patterns.{pattern_spot, free_spot, square_term, round_term, whole_behind, inside, behind_context_name, behind_context, behind_name, pattern}
-use Rattle.lq_sentences.proofs.Completing.{Live, Alive, Room, alive, pure_live, both_next, both_live, map_live, choose_other, when_live, reached}
+use Rattle.lq_sentences.proofs.Completing.{Live, Room, alive, pure_live, both_next, both_live, map_live, choose_other, when_live, reached}
 use Rattle.lq_sentences.proofs.LiveParts.{testing, x_word, expect_live, expect_word_live, a_name_live}
 use Rattle.lq_sentences.proofs.LiveTerms.{TermEnds}
 use Rattle.lq_sentences.proofs.LiveLevels.{term_live, term_behind_live}

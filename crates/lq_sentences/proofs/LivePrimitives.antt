@@ -1,5 +1,5 @@
 -- Primitives with more levels: what is begun is completed.
-use Rattle.std.proofs.Common.{◌≡◌, ℕ, suc, ◌+◌, ◌-◌, ◌≤◌, ◌<◌, Bool, true, false, List, [], ◌∷◌, Ok, refl, arith}
+use Rattle.std.proofs.Common.{ℕ, ◌+◌, ◌≤◌, [], refl, arith}
 use Rattle.std.specs.Prelude.{codes}
 use Rattle.lq_grammar.specs.declared.token.Symbol.{Symbol}
 use Rattle.lq_grammar.specs.declared.token.Symbol.TheVariants.{ColonEqual, BackArrow, OpenRound, CloseRound, OpenSquare, CloseSquare, Colon, Bar}
@@ -8,14 +8,13 @@ use Rattle.lq_ast.specs.Syntax.{Surface}
 use Rattle.lq_ast.specs.Tactics.{Tac}
 use Rattle.lq_sentences.specs.declared.forms.Primitive.{Primitive}
 use Rattle.lq_sentences.specs.declared.forms.Primitive.TheVariants as which
-use Rattle.lq_sentences.specs.Words.{Word, Words, name, symbol, is_name, is_number, is_sign, reads}
-use Rattle.lq_sentences.specs.Rules.{Rule, pure, ◌>>=◌, ◌<$>◌}
+use Rattle.lq_sentences.specs.Words.{Word, name, symbol, is_number, is_sign, reads}
 use Rattle.lq_sentences.specs.Parts.{is_spare, name_word}
 use Rattle.lq_sentences.specs.Patterns.{free_spot}
-use Rattle.lq_sentences.specs.Levels.{Level, Here, spot, a_term}
-use Rattle.lq_sentences.specs.Primitives.{with_term, with_name, pair, with_pair, intro_form, intros_form, constructor_form, as_names, as_part, induction_form, destruct_form, rewrite_form, rename_form, primitive}
-use Rattle.lq_sentences.proofs.Completing.{Live, Alive, Room, room_up, alive, pure_live, both_live, map_live}
-use Rattle.lq_sentences.proofs.LiveParts.{testing, x_word, zero_word, expect_live, expect_word_live, eat_live, maybe_live, many_live, separated_live, a_name_live, names_live, a_number_live}
+use Rattle.lq_sentences.specs.Levels.{Level, spot, a_term}
+use Rattle.lq_sentences.specs.Primitives.{with_term, with_name, pair, intro_form, intros_form, constructor_form, as_part, induction_form, destruct_form, rewrite_form, rename_form, primitive}
+use Rattle.lq_sentences.proofs.Completing.{Live, Alive, Room, alive, pure_live, both_live, map_live}
+use Rattle.lq_sentences.proofs.LiveParts.{testing, x_word, expect_live, expect_word_live, eat_live, maybe_live, many_live, separated_live, a_name_live, names_live, a_number_live}
 use Rattle.lq_sentences.proofs.LiveLevels.{term_live}
 use Rattle.lq_sentences.proofs.LiveMatches.{here}
 use Rattle.lq_sentences.proofs.LiveArguments.{TacEnds}

@@ -1,5 +1,5 @@
 -- Ltac expressions with more levels: what is begun is completed.
-use Rattle.std.proofs.Common.{◌≡◌, ℕ, zero, suc, ◌+◌, ◌-◌, ◌≤◌, ◌<◌, Bool, true, false, List, [], ◌∷◌, ◌++◌, Ok, Err, refl, ap, ◌∙◌, arith}
+use Rattle.std.proofs.Common.{◌≡◌, ℕ, zero, suc, ◌+◌, ◌≤◌, [], ◌∷◌, Ok, refl, ap, ◌∙◌, arith}
 use Rattle.std.specs.Prelude.{codes, Option, Some, None}
 use Rattle.lq_grammar.specs.declared.token.Symbol.TheVariants.{ColonEqual, FatArrow, Bars, OpenRound, CloseRound, OpenSquare, Colon, Semicolon, Minus, Plus, Stop as StopSign}
 use Rattle.lq_trees.specs.Tree.{Name}
@@ -10,19 +10,19 @@ use Rattle.lq_sentences.specs.declared.forms.Form.TheVariants as which
 use Rattle.lq_sentences.specs.declared.forms.Prefix.{Prefix}
 use Rattle.lq_sentences.specs.declared.forms.Prefix.TheVariants as before
 use Rattle.lq_sentences.specs.declared.forms.Primitive.{Primitive}
-use Rattle.lq_sentences.specs.Words.{Word, Words, name, symbol, is_name, is_number, is_sign, reads, text_of, value_of}
-use Rattle.lq_sentences.specs.Rules.{Rule, pure, word, choose, loop, ◌>>=◌, ◌>>◌, ◌<$>◌, sees, Stop, unexpected, ended, Read, and_then, read_word, read}
+use Rattle.lq_sentences.specs.Words.{Word, Words, name, symbol, is_number, is_sign, reads, text_of}
+use Rattle.lq_sentences.specs.Rules.{Rule, loop, ◌<$>◌, sees, and_then, read}
 use Rattle.lq_sentences.specs.Parts.{entry}
 use Rattle.lq_sentences.specs.Terms.{term}
 use Rattle.lq_sentences.specs.Patterns.{free_spot}
-use Rattle.lq_sentences.specs.Levels.{Level, Here, spot, an_atom}
+use Rattle.lq_sentences.specs.Levels.{Level, spot}
 use Rattle.lq_sentences.specs.Primitives.{primitive_words, primitive}
 use Rattle.lq_sentences.specs.Arguments.{begins_arg, argument_at, is_amount, call}
-use Rattle.lq_sentences.specs.Tactics.{function_form, bind, let_form, is_reduction, eval_form, type_form, constr_form, context_form, cycle_form, swap_form, fail_form, fresh_form, form_words, form_of, with_pre, do_form, tryif_form, prefix_words, prefixed, round_tac, named, basic_at, operated, basic, pre_at, begins_pre, pre_in, step, tac_in, no_tac, no_level, above, level}
+use Rattle.lq_sentences.specs.Tactics.{function_form, bind, let_form, is_reduction, eval_form, type_form, constr_form, context_form, cycle_form, swap_form, form_words, form_of, do_form, tryif_form, prefix_words, prefixed, round_tac, basic_at, operated, basic, pre_at, begins_pre, pre_in, step, tac_in, level}
 use Rattle.lq_sentences.proofs.RuleLaws.{chosen_false}
 use Rattle.lq_sentences.proofs.LoopLaws.{many_done, loop_done}
 use Rattle.lq_sentences.proofs.WordLaws.{word_ended, word_wrong, word_right, sees_next}
-use Rattle.lq_sentences.proofs.Completing.{Begins, Fresh, Live, Alive, Room, room_up, alive, pure_live, both_live, map_live, word_then, word_live, choose_other, when_alive, loop_live, Refuses, none_live}
+use Rattle.lq_sentences.proofs.Completing.{Begins, Fresh, Live, Alive, Room, alive, pure_live, both_live, map_live, word_then, word_live, choose_other, when_alive, loop_live, Refuses, none_live}
 use Rattle.lq_sentences.proofs.LiveParts.{testing, x_word, zero_word, expect_live, expect_word_live, eat_live, many_live, a_name_live, names_live, some_names_live, a_number_live}
 use Rattle.lq_sentences.proofs.LiveTerms.{atom_live}
 use Rattle.lq_sentences.proofs.LiveLevels.{term_live}
@@ -43,31 +43,91 @@ else_word = name (codes "else")
 in_ends : TacEnds [] in_word
 unfolding testing
 in_ends = record {
-  arg = refl; argument = refl; message = refl; amount = refl; part = refl; spare = refl; numeral = refl; colon = refl; arrow = refl; plus = refl; bars = refl; semicolon = refl; names = refl
+  arg = refl;
+  argument = refl;
+  message = refl;
+  amount = refl;
+  part = refl;
+  spare = refl;
+  numeral = refl;
+  colon = refl;
+  arrow = refl;
+  plus = refl;
+  bars = refl;
+  semicolon = refl;
+  names = refl;
 }
 
 end_ends : TacEnds [] end_word
 unfolding testing
 end_ends = record {
-  arg = refl; argument = refl; message = refl; amount = refl; part = refl; spare = refl; numeral = refl; colon = refl; arrow = refl; plus = refl; bars = refl; semicolon = refl; names = refl
+  arg = refl;
+  argument = refl;
+  message = refl;
+  amount = refl;
+  part = refl;
+  spare = refl;
+  numeral = refl;
+  colon = refl;
+  arrow = refl;
+  plus = refl;
+  bars = refl;
+  semicolon = refl;
+  names = refl;
 }
 
 then_ends : TacEnds (codes "then") then_word
 unfolding testing
 then_ends = record {
-  arg = refl; argument = refl; message = refl; amount = refl; part = refl; spare = refl; numeral = refl; colon = refl; arrow = refl; plus = refl; bars = refl; semicolon = refl; names = refl
+  arg = refl;
+  argument = refl;
+  message = refl;
+  amount = refl;
+  part = refl;
+  spare = refl;
+  numeral = refl;
+  colon = refl;
+  arrow = refl;
+  plus = refl;
+  bars = refl;
+  semicolon = refl;
+  names = refl;
 }
 
 else_ends : TacEnds (codes "else") else_word
 unfolding testing
 else_ends = record {
-  arg = refl; argument = refl; message = refl; amount = refl; part = refl; spare = refl; numeral = refl; colon = refl; arrow = refl; plus = refl; bars = refl; semicolon = refl; names = refl
+  arg = refl;
+  argument = refl;
+  message = refl;
+  amount = refl;
+  part = refl;
+  spare = refl;
+  numeral = refl;
+  colon = refl;
+  arrow = refl;
+  plus = refl;
+  bars = refl;
+  semicolon = refl;
+  names = refl;
 }
 
 pub stop_ends : TacEnds [] (symbol StopSign)
 unfolding testing
 stop_ends = record {
-  arg = refl; argument = refl; message = refl; amount = refl; part = refl; spare = refl; numeral = refl; colon = refl; arrow = refl; plus = refl; bars = refl; semicolon = refl; names = refl
+  arg = refl;
+  argument = refl;
+  message = refl;
+  amount = refl;
+  part = refl;
+  spare = refl;
+  numeral = refl;
+  colon = refl;
+  arrow = refl;
+  plus = refl;
+  bars = refl;
+  semicolon = refl;
+  names = refl;
 }
 
 module _ (n m : ℕ) (h : n + 3 ≤ m) (b c : Level) (tacs : Tactics b.tac c.tac) (pres : Tactics b.pre c.pre) (e : Name) (w : Word) (t : TacEnds e w) where
@@ -265,8 +325,7 @@ level_live zero (suc k) h = (
 )
 level_live (suc n) zero h = absurd (omega arith)
 level_live (suc n) (suc m) h =
-    let l = level_live n m (omega arith) in
-    (
+    let l = level_live n m (omega arith) in (
       λ e w t. tac_in_live n m (omega arith) (level n) (level m) l.0 l.1 e w t,
       λ e w t. pre_in_live n m (omega arith) (level n) (level m) l.0 l.1 e w t,
     )

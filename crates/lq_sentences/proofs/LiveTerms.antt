@@ -1,19 +1,16 @@
 -- Terms with more levels: what is begun is completed.
-use Rattle.std.proofs.Common.{◌≡◌, ℕ, zero, suc, ◌+◌, ◌-◌, ◌≤◌, ◌<◌, Bool, true, false, List, [], ◌∷◌, ◌++◌, Ok, Err, refl, sym, ap, subst, ◌∙◌, arith}
-use Rattle.std.specs.Prelude.{codes, ◌||◌}
+use Rattle.std.proofs.Common.{◌≡◌, ℕ, ◌+◌, false, List, [], refl}
+use Rattle.std.specs.Prelude.{codes}
 use Rattle.lq_grammar.specs.declared.token.Symbol.{Symbol}
 use Rattle.lq_grammar.specs.declared.token.Symbol.TheVariants.{ColonEqual, FatArrow, Arrow as ArrowSign, OpenRound, CloseRound, OpenSquare, CloseSquare, Colon, Comma, Question, Underscore}
 use Rattle.lq_trees.specs.Tree.{Name}
-use Rattle.lq_ast.specs.Syntax.{Surface, Domain, Forall, Fun, LetIn, Arrow, applied, Ident, Blank, PropSort, TypeSort, Cast, Meta, NewVar, Written, Missing, Bound, bound}
+use Rattle.lq_ast.specs.Syntax.{Surface, Domain, Forall, Fun, applied, Meta, NewVar}
 use Rattle.lq_ast.specs.Plain.{joined}
-use Rattle.lq_sentences.specs.Words.{Word, Words, name, number, symbol, is_name, is_sign, reads, text_of}
-use Rattle.lq_sentences.specs.Rules.{Rule, when, pure, word, choose, ◌>>=◌, ◌<$>◌, sees, Stop, unexpected, too_nested, ended, Read, and_then, read_word, read}
+use Rattle.lq_sentences.specs.Words.{Word, name, symbol, is_sign, reads}
+use Rattle.lq_sentences.specs.Rules.{Rule}
 use Rattle.lq_sentences.specs.Parts.{is_binder}
-use Rattle.lq_sentences.specs.Terms.{Spot, within, begins_atom, begins_term, begins_argument, is_level, typed, untyped, typed_names, closed, group, cast_behind, bracketed, new_variable, behind_question, behind_type, atom_at, atom, arguments, arrow_behind, arrow_term, names_behind, inner_group, binders, quantified, domain_behind, let_head, let_body, let_term, term_in, no_term, levels, term}
-use Rattle.lq_sentences.proofs.RuleLaws.{choice, chosen_true, chosen_false}
-use Rattle.lq_sentences.proofs.LoopLaws.{many_done}
-use Rattle.lq_sentences.proofs.WordLaws.{word_ended, word_wrong, word_right, sees_next}
-use Rattle.lq_sentences.proofs.Completing.{Kept, IsOpen, Begins, Fresh, Live, Alive, Room, room_up, alive, pure_live, both_live, map_live, word_then, word_live, choose_other, when_alive}
+use Rattle.lq_sentences.specs.Terms.{Spot, within, begins_atom, begins_argument, is_level, group, cast_behind, bracketed, new_variable, behind_question, behind_type, atom_at, atom, arguments, arrow_behind, arrow_term, names_behind, inner_group, binders, quantified, domain_behind, let_head, let_body, let_term, term_in}
+use Rattle.lq_sentences.proofs.Completing.{Live, Alive, Room, room_up, alive, pure_live, both_live, map_live, word_then, word_live, choose_other, when_alive}
 use Rattle.lq_sentences.proofs.LiveParts.{testing, x_word, zero_word, expect_live, expect_word_live, behind_live, many_live, a_name_live, a_binder_live, some_binders_live}
 
 -- a term ends before that word
