@@ -21,7 +21,9 @@ pub mod LiveArguments
 pub mod LivePrimitives
 pub mod LiveTactics
 pub mod LiveCommands
+pub mod NestingLaws
 pub mod LeastPlace
+pub mod FaultPlaces
 mod Trying
 mod TreeRows
 mod LongRows
