@@ -1,6 +1,7 @@
 -- Faults at nesting 201, for each form that nests, computed on words; the place of a word is how many stand before it.
 use Rattle.std.specs.Prelude.{◌≡◌, refl, ℕ, zero, suc, List, [], ◌∷◌, ◌++◌, codes, None, Ok, Err}
 use Rattle.lq_grammar.specs.declared.token.Symbol.TheVariants as sign
+use Rattle.lq_ast.specs.Syntax as u
 use Rattle.lq_ast.specs.Tactics as t
 use Rattle.lq_ast.specs.Commands as v
 use Rattle.lq_sentences.specs.Words.{Word, Words, name, number, symbol}
@@ -91,3 +92,13 @@ tried (suc n) b = t.try (tried n b)
 deepest : sentence (placed 0 (times 200 (name (codes "try") ∷ []) (a ∷ symbol sign.Stop ∷ []))) ≡ Ok (v.stated 0 (v.run None (tried 200 (t.call (codes "a") t.no_arg))))
 unfolding reading times placed
 deepest = refl
+
+abbrev words_said : ℕ → t.Args → t.Args
+words_said zero as_ = as_
+words_said (suc n) as_ = t.arg (t.term_arg (u.Ident (codes "try"))) (words_said n as_)
+
+-- too deep behind `Fail`, which so is the name of a call
+other_reading : sentence (placed 0 (name (codes "Fail") ∷ times 201 (name (codes "try") ∷ []) (a ∷ symbol sign.Stop ∷ [])))
+    ≡ Ok (v.stated 0 (v.run None (t.call (codes "Fail") (words_said 201 (t.arg (t.term_arg (u.Ident (codes "a"))) t.no_arg)))))
+unfolding reading times placed
+other_reading = refl
