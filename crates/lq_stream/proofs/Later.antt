@@ -4,7 +4,7 @@ use Rattle.lq_runs.specs.Machines.{Does}
 use Rattle.lq_runs.specs.Runs.{Run}
 use Rattle.lq_runs.specs.Stacks as Stacks
 use Rattle.lq_runs.specs.Streams.{runs, has, fails, Shows}
-use Rattle.lq_stream.specs.Stepping.{Telling}
+use Rattle.lq_stream.specs.Stepping.{Telling, Knowing, StaysKnown, ToldAlike}
 use Rattle.lq_stream.specs.declared.stacks.Frame.{Frame}
 use Rattle.lq_stream.specs.declared.stacks.Frame.TheVariants.{Then, Test, Only, Less, Alone}
 use Rattle.lq_stream.specs.declared.stacks.Link.{Link}
@@ -13,24 +13,7 @@ use Rattle.lq_stream.specs.declared.stacks.Choice.TheVariants.{Alternative, Othe
 use Rattle.lq_stream.specs.declared.turns.Doing.{Doing}
 use Rattle.lq_stream.specs.declared.turns.Doing.TheVariants.{Run as Running, Success, Failure, Look}
 use Rattle.lq_stream.specs.Reading.{frame_of, stack_in, stacks_from, stack_at, choice_of, choices_onto, choices_of}
-use Rattle.lq_stream.specs.Holding.{RestHas, AreLinks, Knowing, IsChoice, AreChoices, HasDoing, Stands}
-
-module _ {A R V C K : Type 0} where
-  -- what is known stays known
-  pub record StaysKnown (k l : Knowing A R V C K) : Type 0 where
-    pub code : (x : A) → k.code x → l.code x
-    pub rest : (x : R) → k.rest x → l.rest x
-    pub value : (x : V) → k.value x → l.value x
-    pub cause : (x : C) → k.cause x → l.cause x
-    pub mark : (x : K) → k.mark x → l.mark x
-
-  -- what is known is told alike
-  pub record ToldAlike {A2 R2 V2 C2 S : Type 0} (k : Knowing A R V C K) (t u : Telling A R V C K A2 R2 V2 C2 S) : Type 0 where
-    pub code : (x : A) → k.code x → u.code x ≡ t.code x
-    pub rest : (x : R) → k.rest x → u.rest x ≡ t.rest x
-    pub value : (x : V) → k.value x → u.value x ≡ t.value x
-    pub cause : (x : C) → k.cause x → u.cause x ≡ t.cause x
-    pub marked : (x : K) → k.mark x → u.marked x ≡ t.marked x
+use Rattle.lq_stream.specs.Holding.{RestHas, AreLinks, IsChoice, AreChoices, HasDoing, Stands}
 
 module _ {A R V C K : Type 0} (k l : Knowing A R V C K) (h : StaysKnown k l) where
   rest_known : (x : Frame R) → RestHas k.rest x → RestHas l.rest x

@@ -8,3 +8,14 @@ mod Keeping
 mod SoleArms
 mod Later
 mod PlaceArms
+mod MoveCosts
+mod FailCosts
+mod SuccessCosts
+mod Tops
+mod Cutting
+mod Chaining
+mod TurnLaws
+mod Comings
+mod Asked
+mod HeldLaws
+mod Loops

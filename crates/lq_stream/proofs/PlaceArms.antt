@@ -3,7 +3,7 @@ use Rattle.std.proofs.Common.{◌≡◌, ◌≤◌, ◌<◌, ◌+◌, ◌-◌, �
 use Rattle.lq_runs.specs.Runs.{Run}
 use Rattle.lq_runs.specs.Machines.{Does}
 use Rattle.lq_runs.specs.Stacks as Stacks
-use Rattle.lq_runs.specs.Streams.{Work, has, Shows}
+use Rattle.lq_runs.specs.Streams.{Work, has, turns, Shows}
 use Rattle.lq_stream.specs.Stepping.{Telling}
 use Rattle.lq_stream.specs.declared.stacks.Frame.{Frame}
 use Rattle.lq_stream.specs.declared.stacks.Frame.TheVariants.{Then, Test, Only, Less, Alone}
@@ -12,6 +12,7 @@ use Rattle.lq_stream.specs.declared.turns.Doing.{Doing}
 use Rattle.lq_stream.specs.Failing.{IsFailing}
 use Rattle.lq_stream.specs.Reading.{frame_of, stack_at}
 use Rattle.lq_stream.specs.Holding.{RestHas, IsPlain, AreLinks, Stands}
+use Rattle.lq_stream.specs.Turning.{doing_turns}
 use Rattle.lq_stream.proofs.Arenas.{stack_read, link_holds}
 
 -- a continuation that is no exactly-once
@@ -50,3 +51,11 @@ module _ {A R V C K A2 R2 V2 C2 S M : Type 0} (rank : R2 → ℕ) (t : Telling A
 
   pub over_alone : (x : Doing A V C) (v : V2) → ks ≡ ls → (Shows rank d s (has v) ls hs f → IsFailing x × Stands rank t d s x ls gs f) → Shows rank d s (has v) ks hs f → Stands rank t d s x ks gs f
   over_alone x v e r q = subst (λ z. Stands rank t d s x z gs f) (sym e) (r (over_stack (has v) e q)).1
+
+module _ {A R V C K A2 R2 V2 C2 S M : Type 0} (rank : A2 → ℕ) (rest_rank : R2 → ℕ) (t : Telling A R V C K A2 R2 V2 C2 S) (d : Does M C2 S V2 A2 R2) (s : S)
+    (ks ls : List (Stacks.Frame R2)) (hs gs : List (Stacks.Choice A2 R2 V2 C2 S)) (f : ℕ → Run M C2 S V2) where
+  pub falls_alone : (x : Doing A V C) (v : V2) → ks ≡ ls →
+      (Shows rest_rank d s (has v) ls hs f → doing_turns rank rest_rank t x ls gs < turns rank rest_rank (has v) ls hs) →
+      Shows rest_rank d s (has v) ks hs f → doing_turns rank rest_rank t x ks gs < turns rank rest_rank (has v) ks hs
+  falls_alone x v e r q =
+      subst (λ z. doing_turns rank rest_rank t x z gs < turns rank rest_rank (has v) z hs) (sym e) (r (over_stack rest_rank t d s ks ls hs gs f (has v) e q))

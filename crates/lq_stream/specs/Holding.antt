@@ -4,7 +4,7 @@ use Rattle.lq_runs.specs.Machines.{Does}
 use Rattle.lq_runs.specs.Runs.{Run}
 use Rattle.lq_runs.specs.Stacks as Stacks
 use Rattle.lq_runs.specs.Streams.{runs, has, fails, Shows}
-use Rattle.lq_stream.specs.Stepping.{Telling}
+use Rattle.lq_stream.specs.Stepping.{Telling, Knowing}
 use Rattle.lq_stream.specs.declared.stacks.Frame.{Frame}
 use Rattle.lq_stream.specs.declared.stacks.Frame.TheVariants.{Then, Test, Alone}
 use Rattle.lq_stream.specs.declared.stacks.Link.{Link}
@@ -28,14 +28,6 @@ IsPlain _ = Unit {0}
 abbrev pub AreLinks : {R : Type 0} → (R → Type 0) → ℕ → List (Link R) → Type 0
 AreLinks P n [] = Unit {0}
 AreLinks P n (l ∷ ls) = (l.below ≤ n) × RestHas P l.frame × AreLinks P (suc n) ls
-
--- what is known of a machine's codes, values, causes and marks
-pub record Knowing (A R V C K : Type 0) : Type 1 where
-  pub code : A → Type 0
-  pub rest : R → Type 0
-  pub value : V → Type 0
-  pub cause : C → Type 0
-  pub mark : K → Type 0
 
 module _ {A R V C K : Type 0} (k : Knowing A R V C K) (places : ℕ) where
   -- all that a choice names is known, and its continuations are there

@@ -3,9 +3,12 @@
 
 mod machine;
 mod moves;
+mod running;
 mod stacks;
+mod steps;
 mod stop;
 mod stream;
+mod turning;
 mod turns;
 
 pub use machine::Machine;

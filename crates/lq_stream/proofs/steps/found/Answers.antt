@@ -1,4 +1,4 @@
-use Rattle.std.proofs.Common.{◌≤◌, slice_set, rules, ◌≡◌, ◌∷◌, Some, length, slice_get, subst, sym, ◌∙◌, arith}
+use Rattle.std.proofs.Common.{le_refl, ◌≤◌, slice_set, rules, ◌≡◌, ◌∷◌, Some, length, slice_get, subst, sym, ◌∙◌, arith}
 use Rattle.lq_runs.specs.Stacks as Stack
 use Rattle.lq_runs.specs.Streams.{fails, Shows}
 use Rattle.lq_stream.specs.Holding.{HasFirst, IsChoice}
@@ -6,7 +6,10 @@ use Rattle.lq_stream.specs.declared.stacks.Choice.TheVariants.{NoSuccess, FirstS
 use Rattle.lq_stream.specs.Reading.{choices_of}
 use Rattle.lq_stream.proofs.SoleArms.{read_at, set_twice, take_set, first_found, second_found, none_found, nothing_found}
 use Rattle.lq_stream.proofs.Switching.{get_holds, set_holds, take_keep}
-use Rattle.lq_stream.proofs.stream.found.Goals as goal
+use Rattle.lq_stream.specs.Places.{place_in}
+use Rattle.lq_stream.proofs.SuccessCosts.{falls_first, falls_second}
+use Rattle.lq_stream.proofs.Tops.{shrinks_same, shrinks_set, shrinks_take}
+use Rattle.lq_stream.proofs.steps.found.Goals as goal
 
 pub returns-then-height-len : goal.returns-then-height-len
 returns-then-height-len g c =
@@ -16,6 +19,8 @@ returns-then-height-len g c =
       stands =
           λ ls ks f q. absurd (nothing_found g.M.Machine.rest_rank (g.M.Machine.told c.args.machine.now) (g.M.Machine.does c.args.machine.now) (g.M.Machine.state c.args.machine.now) ls ks
           c.args.choices.now.items f c.args.height c.args.value (omega (arith, n, c.if-height-len.true)) q);
+      shrinks = shrinks_same c.args.choices.now.items;
+      falls = λ ls ks f q. absurd (nothing_found g.M.Machine.rest_rank (g.M.Machine.told c.args.machine.now) (g.M.Machine.does c.args.machine.now) (g.M.Machine.state c.args.machine.now) ls ks c.args.choices.now.items f c.args.height c.args.value (omega (arith, n, c.if-height-len.true)) q);
     }
 
 pub returns-in-NoSuccess : goal.returns-in-NoSuccess
@@ -26,9 +31,9 @@ returns-in-NoSuccess g c =
     (sym c.in-NoSuccess.is ∙ c.replace.ensures.value) in
     record {
       keeps = λ n q. (
-        set_holds (record { code = g.M.Machine.has_code c.args.machine.now; rest = g.M.Machine.has_rest c.args.machine.now; value = g.M.Machine.has_value c.args.machine.now; cause = g.M.Machine.has_cause c.args.machine.now; mark = g.M.Machine.knows c.args.machine.now }) n c.args.height (slice_set c.args.choices.now.items c.args.height c.replace.new.dest) (FirstSuccess c.in-NoSuccess.cause c.mark.result c.args.value c.in-NoSuccess.at)
-            (set_holds (record { code = g.M.Machine.has_code c.args.machine.now; rest = g.M.Machine.has_rest c.args.machine.now; value = g.M.Machine.has_value c.args.machine.now; cause = g.M.Machine.has_cause c.args.machine.now; mark = g.M.Machine.knows c.args.machine.now }) n c.args.height c.args.choices.now.items c.replace.new.dest q (subst (IsChoice (record { code = g.M.Machine.has_code c.args.machine.now; rest = g.M.Machine.has_rest c.args.machine.now; value = g.M.Machine.has_value c.args.machine.now; cause = g.M.Machine.has_cause c.args.machine.now; mark = g.M.Machine.knows c.args.machine.now }) n) (sym c.replace.ensures.after) tt))
-            (let p : g.M.Machine.has_cause c.args.machine.now c.in-NoSuccess.cause × (c.in-NoSuccess.at ≤ n) = get_holds (record { code = g.M.Machine.has_code c.args.machine.now; rest = g.M.Machine.has_rest c.args.machine.now; value = g.M.Machine.has_value c.args.machine.now; cause = g.M.Machine.has_cause c.args.machine.now; mark = g.M.Machine.knows c.args.machine.now }) n c.args.height c.args.choices.now.items (NoSuccess c.in-NoSuccess.cause c.in-NoSuccess.at) r q in (p.0, c.mark.ensures.known, c.requires.value, p.1)),
+        set_holds (g.M.Machine.known c.args.machine.now) n c.args.height (slice_set c.args.choices.now.items c.args.height c.replace.new.dest) (FirstSuccess c.in-NoSuccess.cause c.mark.result c.args.value c.in-NoSuccess.at)
+            (set_holds (g.M.Machine.known c.args.machine.now) n c.args.height c.args.choices.now.items c.replace.new.dest q (subst (IsChoice (g.M.Machine.known c.args.machine.now) n) (sym c.replace.ensures.after) tt))
+            (let p : (g.M.Machine.known c.args.machine.now).cause c.in-NoSuccess.cause × (c.in-NoSuccess.at ≤ n) = get_holds (g.M.Machine.known c.args.machine.now) n c.args.height c.args.choices.now.items (NoSuccess c.in-NoSuccess.cause c.in-NoSuccess.at) r q in (p.0, c.mark.ensures.known, c.requires.value, p.1)),
         tt,
       );
       stands =
@@ -40,6 +45,8 @@ returns-in-NoSuccess g c =
                 (first_found g.M.Machine.rest_rank (g.M.Machine.told c.args.machine.now) (g.M.Machine.does c.args.machine.now) (g.M.Machine.state c.args.machine.now) ls ks
                 c.args.choices.now.items f c.args.height c.args.value c.in-NoSuccess.cause c.in-NoSuccess.at c.mark.result r c.mark.ensures.state q),
           );
+      shrinks = shrinks_set c.args.height c.args.choices.now.items (slice_set (slice_set c.args.choices.now.items c.args.height c.replace.new.dest) c.args.height (FirstSuccess c.in-NoSuccess.cause c.mark.result c.args.value c.in-NoSuccess.at)) (NoSuccess c.in-NoSuccess.cause c.in-NoSuccess.at) (FirstSuccess c.in-NoSuccess.cause c.mark.result c.args.value c.in-NoSuccess.at) r (le_refl c.in-NoSuccess.at) (set_twice c.args.height c.args.choices.now.items c.replace.new.dest (FirstSuccess c.in-NoSuccess.cause c.mark.result c.args.value c.in-NoSuccess.at));
+      falls = λ ls ks f q. falls_first g.M.Machine.rank g.M.Machine.rest_rank (g.M.Machine.told c.args.machine.now) ls ks c.args.choices.now.items (slice_set (slice_set c.args.choices.now.items c.args.height c.replace.new.dest) c.args.height (FirstSuccess c.in-NoSuccess.cause c.mark.result c.args.value c.in-NoSuccess.at)) c.args.height c.args.value c.in-NoSuccess.cause c.in-NoSuccess.at c.mark.result r (set_twice c.args.height c.args.choices.now.items c.replace.new.dest (FirstSuccess c.in-NoSuccess.cause c.mark.result c.args.value c.in-NoSuccess.at));
     }
 
 pub returns-in-FirstSuccess : goal.returns-in-FirstSuccess
@@ -51,8 +58,8 @@ returns-in-FirstSuccess g c =
     (omega (arith, n, c.if-height-len.false)) c.index_mut.ensures.value (sym c.in-FirstSuccess.is ∙ c.replace.ensures.value) in
     record {
       keeps = λ n q. (
-        take_keep (record { code = g.M.Machine.has_code c.args.machine.now; rest = g.M.Machine.has_rest c.args.machine.now; value = g.M.Machine.has_value c.args.machine.now; cause = g.M.Machine.has_cause c.args.machine.now; mark = g.M.Machine.knows c.args.machine.now }) n c.args.height c.args.choices.now.items c.truncate.new.self.items (c.truncate.ensures.items ∙ take_set c.args.height c.args.choices.now.items c.replace.new.dest) q,
-        (get_holds (record { code = g.M.Machine.has_code c.args.machine.now; rest = g.M.Machine.has_rest c.args.machine.now; value = g.M.Machine.has_value c.args.machine.now; cause = g.M.Machine.has_cause c.args.machine.now; mark = g.M.Machine.knows c.args.machine.now }) n c.args.height c.args.choices.now.items (FirstSuccess c.in-FirstSuccess.cause c.in-FirstSuccess.field-1 c.in-FirstSuccess.field-2 c.in-FirstSuccess.field-3) r q).0,
+        take_keep (g.M.Machine.known c.args.machine.now) n c.args.height c.args.choices.now.items c.truncate.new.self.items (c.truncate.ensures.items ∙ take_set c.args.height c.args.choices.now.items c.replace.new.dest) q,
+        (get_holds (g.M.Machine.known c.args.machine.now) n c.args.height c.args.choices.now.items (FirstSuccess c.in-FirstSuccess.cause c.in-FirstSuccess.field-1 c.in-FirstSuccess.field-2 c.in-FirstSuccess.field-3) r q).0,
       );
       stands =
           λ ls ks f q. (
@@ -64,6 +71,8 @@ returns-in-FirstSuccess g c =
                 (second_found g.M.Machine.rest_rank (g.M.Machine.told c.args.machine.now) (g.M.Machine.does c.args.machine.now) (g.M.Machine.state c.args.machine.now) ls ks
                 c.args.choices.now.items f c.args.height c.args.value c.in-FirstSuccess.cause c.in-FirstSuccess.field-1 c.in-FirstSuccess.field-2 c.in-FirstSuccess.field-3 r q),
           );
+      shrinks = shrinks_take c.args.height c.args.choices.now.items c.truncate.new.self.items (c.truncate.ensures.items ∙ take_set c.args.height c.args.choices.now.items c.replace.new.dest);
+      falls = λ ls ks f q. falls_second g.M.Machine.rank g.M.Machine.rest_rank (g.M.Machine.told c.args.machine.now) ls ks c.args.choices.now.items c.truncate.new.self.items c.args.height c.args.value (c.truncate.ensures.items ∙ take_set c.args.height c.args.choices.now.items c.replace.new.dest);
     }
 
 pub returns-in_default : goal.returns-in_default
@@ -73,12 +82,14 @@ returns-in_default g c =
     read_at c.args.height c.args.choices.now.items c.index_mut.result.now c.replace.result (omega (arith, n, c.if-height-len.false)) c.index_mut.ensures.value c.replace.ensures.value in
     record {
       keeps = λ n q. (
-        set_holds (record { code = g.M.Machine.has_code c.args.machine.now; rest = g.M.Machine.has_rest c.args.machine.now; value = g.M.Machine.has_value c.args.machine.now; cause = g.M.Machine.has_cause c.args.machine.now; mark = g.M.Machine.knows c.args.machine.now }) n c.args.height (slice_set c.args.choices.now.items c.args.height c.replace.new.dest) c.replace.result
-            (set_holds (record { code = g.M.Machine.has_code c.args.machine.now; rest = g.M.Machine.has_rest c.args.machine.now; value = g.M.Machine.has_value c.args.machine.now; cause = g.M.Machine.has_cause c.args.machine.now; mark = g.M.Machine.knows c.args.machine.now }) n c.args.height c.args.choices.now.items c.replace.new.dest q (subst (IsChoice (record { code = g.M.Machine.has_code c.args.machine.now; rest = g.M.Machine.has_rest c.args.machine.now; value = g.M.Machine.has_value c.args.machine.now; cause = g.M.Machine.has_cause c.args.machine.now; mark = g.M.Machine.knows c.args.machine.now }) n) (sym c.replace.ensures.after) tt))
-            (get_holds (record { code = g.M.Machine.has_code c.args.machine.now; rest = g.M.Machine.has_rest c.args.machine.now; value = g.M.Machine.has_value c.args.machine.now; cause = g.M.Machine.has_cause c.args.machine.now; mark = g.M.Machine.knows c.args.machine.now }) n c.args.height c.args.choices.now.items c.replace.result r q),
+        set_holds (g.M.Machine.known c.args.machine.now) n c.args.height (slice_set c.args.choices.now.items c.args.height c.replace.new.dest) c.replace.result
+            (set_holds (g.M.Machine.known c.args.machine.now) n c.args.height c.args.choices.now.items c.replace.new.dest q (subst (IsChoice (g.M.Machine.known c.args.machine.now) n) (sym c.replace.ensures.after) tt))
+            (get_holds (g.M.Machine.known c.args.machine.now) n c.args.height c.args.choices.now.items c.replace.result r q),
         c.requires.value,
       );
       stands =
           λ ls ks f q. absurd (none_found g.M.Machine.rest_rank (g.M.Machine.told c.args.machine.now) (g.M.Machine.does c.args.machine.now) (g.M.Machine.state c.args.machine.now) ls ks
           c.args.choices.now.items f c.args.height c.args.value c.replace.result r c.in_default.not-NoSuccess c.in_default.not-FirstSuccess q);
+      shrinks = shrinks_set c.args.height c.args.choices.now.items (slice_set (slice_set c.args.choices.now.items c.args.height c.replace.new.dest) c.args.height c.replace.result) c.replace.result c.replace.result r (le_refl (place_in c.replace.result)) (set_twice c.args.height c.args.choices.now.items c.replace.new.dest c.replace.result);
+      falls = λ ls ks f q. absurd (none_found g.M.Machine.rest_rank (g.M.Machine.told c.args.machine.now) (g.M.Machine.does c.args.machine.now) (g.M.Machine.state c.args.machine.now) ls ks c.args.choices.now.items f c.args.height c.args.value c.replace.result r c.in_default.not-NoSuccess c.in_default.not-FirstSuccess q);
     }
