@@ -1,7 +1,7 @@
 -- Pieces of a stream's work, one after another.
-use Rattle.std.proofs.Common.{◌≡◌, ◌≤◌, ◌<◌, ◌+◌, ℕ, max, List, [], ◌∷◌, ◌++◌, Result, Ok, Err, refl, sym, ◌∙◌, ap, subst, arith, append_assoc, append-nil}
+use Rattle.std.proofs.Common.{◌≡◌, ℕ, max, List, [], ◌∷◌, ◌++◌, Result, Ok, Err, refl, sym, ◌∙◌, ap, subst, arith, append_assoc, append-nil}
 use Rattle.lq_runs.specs.Runs.{Run, Runs}
-use Rattle.lq_runs.specs.Machines.{Does, First, gives, ends, out, hearing, heard, seen, Lastly}
+use Rattle.lq_runs.specs.Machines.{Does, First, gives, ends, out, hearing, heard, seen}
 use Rattle.lq_runs.proofs.FirstLaws.{heard_append}
 use Rattle.lq_stream.specs.Reading.{Answers}
 use Rattle.lq_stream.specs.declared.moves.StepFault.{StepFault}
@@ -9,7 +9,7 @@ use Rattle.lq_stream.specs.declared.stacks.Answer.{Answer}
 use Rattle.lq_stream.specs.declared.stacks.Answer.TheVariants.{Success, End}
 use Rattle.lq_stream.specs.declared.turns.Turn.{Turn}
 use Rattle.lq_stream.specs.declared.turns.Turn.TheVariants.{GoesOn, Answered}
-use Rattle.lq_stream.specs.Turning.{Goes, Spends, Gives, Scene, Works, LeadsTo}
+use Rattle.lq_stream.specs.Turning.{Goes, Spends, Gives, Scene, LeadsTo}
 
 module _ {M C S V : Type 0} where
   heard_gives : (ms : List M) (left : ℕ) (ns : List M) (s : S) (v : V) (as1 : Runs M C S V) → heard ms (gives left ns s v as1) ≡ gives left (ms ++ ns) s v as1

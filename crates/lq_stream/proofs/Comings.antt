@@ -1,9 +1,9 @@
 -- Successes and failures of a stream, over plain lists: an answer, or work that goes on.
-use Rattle.std.proofs.Common.{◌≡◌, ◌≤◌, ◌<◌, ◌+◌, ℕ, suc, List, [], ◌∷◌, ◌++◌, length, Result, Ok, refl, sym, ◌∙◌, ap, subst, arith, append-nil}
-use Rattle.lq_runs.specs.Runs.{Run, fail, yield}
+use Rattle.std.proofs.Common.{◌≡◌, ◌<◌, ℕ, List, [], ◌∷◌, ◌++◌, Ok, refl, sym, ◌∙◌, ap, subst, append-nil}
+use Rattle.lq_runs.specs.Runs.{Run}
 use Rattle.lq_runs.specs.Machines.{Does, first, seen}
 use Rattle.lq_runs.specs.Stacks as Stacks
-use Rattle.lq_runs.specs.Streams.{has, fails, Shows, work_cost, frames_cost, choices_cost, turns}
+use Rattle.lq_runs.specs.Streams.{has, fails, Shows, work_cost, turns}
 use Rattle.lq_runs.proofs.SuccessLaws.{has_answer}
 use Rattle.lq_runs.proofs.FailureLaws.{fails_end}
 use Rattle.lq_stream.specs.Stepping.{Telling, Knowing, ToldAlike}
@@ -12,7 +12,6 @@ use Rattle.lq_stream.specs.declared.stacks.Link.{Link}
 use Rattle.lq_stream.specs.declared.stacks.Choice.{Choice}
 use Rattle.lq_stream.specs.declared.turns.Doing.{Doing}
 use Rattle.lq_stream.specs.declared.turns.Doing.TheVariants.{Run as Running, Success, Failure, Look}
-use Rattle.lq_stream.specs.declared.turns.Turn.{Turn}
 use Rattle.lq_stream.specs.declared.turns.Turn.TheVariants.{GoesOn, Answered}
 use Rattle.lq_stream.specs.Reading.{stack_at, choice_of, choices_onto, choices_of}
 use Rattle.lq_stream.specs.Holding.{AreLinks, AreChoices, HasDoing, HasFirst, Stands}
@@ -109,7 +108,7 @@ module _ {A R V C K A2 R2 V2 C2 S M : Type 0} (rank : A2 → ℕ) (rest_rank : R
                 (less_later (turns rank rest_rank (fails l (t.cause c)) (stack_at t.rest ls place) (choice_of t ls x ∷ choices_of t ls xs2)) (less f w2)),
           )
 
-      pub look_goes : 
+      pub look_goes :
           ((f : ℕ → Run M C2 S V2) (c : C2) → Shows rest_rank d s (fails 0 c) (stack_at t.rest ls place) (choice_of t ls x ∷ choices_of t ls xs2) f → HasFirst (choice_of t ls x ∷ choices_of t ls xs2) →
           Stands rest_rank t d s2 y (stack_at t.rest ls q) (choices_of t ls xs2) f) →
           ((f : ℕ → Run M C2 S V2) (c : C2) → Shows rest_rank d s (fails 0 c) (stack_at t.rest ls place) (choice_of t ls x ∷ choices_of t ls xs2) f →

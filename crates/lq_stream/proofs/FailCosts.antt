@@ -1,5 +1,5 @@
 -- Failures, on the newest choice of a stream: fewer turns are left.
-use Rattle.std.proofs.Common.{None, ◌≡◌, ◌<◌, ◌+◌, ℕ, suc, List, ◌∷◌, Some, sym, subst}
+use Rattle.std.proofs.Common.{◌≡◌, ◌<◌, ◌+◌, ℕ, suc, List, ◌∷◌, Some, sym, subst}
 use Rattle.lq_runs.specs.Runs.{Run}
 use Rattle.lq_runs.specs.Machines.{Does}
 use Rattle.lq_runs.specs.Stacks as Stacks

@@ -5,7 +5,7 @@ use Rattle.lq_stream.specs.Stepping.{Knowing, StaysKnown}
 use Rattle.lq_stream.specs.declared.stacks.Link.{Link}
 use Rattle.lq_stream.specs.declared.stacks.Choice.{Choice}
 use Rattle.lq_stream.specs.declared.stacks.Choice.TheVariants.{Alternative, Otherwise, Lowering, Passed, NoSuccess, FirstSuccess}
-use Rattle.lq_stream.specs.Holding.{AreLinks, IsChoice, AreChoices, KnowsMark}
+use Rattle.lq_stream.specs.Holding.{IsChoice, AreChoices, KnowsMark}
 use Rattle.lq_stream.specs.Places.{AreTops, Shrinks, GrowsByOne, newest, Held}
 use Rattle.lq_stream.proofs.Later.{links_known, choices_known}
 use Rattle.lq_stream.proofs.Cutting.{held_cut}

@@ -1,14 +1,12 @@
 -- Turns one after another: what was led to so far, and the next piece of work.
-use Rattle.std.proofs.Common.{◌≡◌, ◌<◌, ◌+◌, ℕ, List, Result, Ok, Err, refl, sym, subst}
+use Rattle.std.proofs.Common.{◌≡◌, ◌<◌, ℕ, Result, Ok, Err, refl, sym, subst}
 use Rattle.lq_runs.specs.Runs.{Run}
 use Rattle.lq_runs.specs.Machines.{Does}
-use Rattle.lq_stream.specs.Stepping.{Knowing}
 use Rattle.lq_stream.specs.declared.moves.StepFault.{StepFault}
 use Rattle.lq_stream.specs.declared.turns.Doing.{Doing}
 use Rattle.lq_stream.specs.declared.turns.Turn.{Turn}
-use Rattle.lq_stream.specs.declared.turns.Turn.TheVariants.{GoesOn, Answered}
-use Rattle.lq_stream.specs.Holding.{HasDoing}
-use Rattle.lq_stream.specs.Turning.{Goes, Scene, Works, turns_at, LeadsTo, Turns, Ticked, TurnHas}
+use Rattle.lq_stream.specs.declared.turns.Turn.TheVariants.{GoesOn}
+use Rattle.lq_stream.specs.Turning.{Goes, Scene, Works, turns_at, LeadsTo, Turns}
 use Rattle.lq_stream.proofs.Chaining.{goes_same, leads_on}
 
 module _ {A R V C K A2 R2 V2 C2 S M : Type 0} (rank : A2 → ℕ) (rest_rank : R2 → ℕ) (d : Does M C2 S V2 A2 R2) (o : Scene A R V C K A2 R2 V2 C2 S M) (x : Doing A V C) (p : ℕ) where

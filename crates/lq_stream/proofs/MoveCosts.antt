@@ -1,5 +1,5 @@
 -- The moves of a step that paid no tick: fewer turns are left.
-use Rattle.std.proofs.Common.{◌≡◌, ◌≤◌, ◌<◌, ◌+◌, ℕ, suc, List, [], ◌∷◌, ◌++◌, None, length, refl, sym, ◌∙◌, ap, ap₂, subst}
+use Rattle.std.proofs.Common.{◌≡◌, ◌≤◌, ◌<◌, ◌+◌, ℕ, suc, List, [], ◌∷◌, ◌++◌, None, length, sym, ◌∙◌, ap, subst}
 use Rattle.lq_runs.specs.Runs.{cut}
 use Rattle.lq_runs.specs.Machines.{Does, Falls}
 use Rattle.lq_runs.specs.Stacks as Stacks
@@ -7,8 +7,7 @@ use Rattle.lq_runs.specs.Streams.{runs, cost, work_cost, frames_cost, choices_co
 use Rattle.lq_runs.proofs.CostLaws.{turns_give, turns_fail, turns_bind, turns_branch, turns_once, turns_lower, turns_sole}
 use Rattle.lq_stream.specs.Stepping.{Telling, Knowing, move_of}
 use Rattle.lq_stream.specs.declared.moves.Move.{Move}
-use Rattle.lq_stream.specs.declared.moves.Move.TheVariants.{Give, Fail, Plus, Bind, Branch, Once, Sole, Lower}
-use Rattle.lq_stream.specs.declared.stacks.Frame.{Frame}
+use Rattle.lq_stream.specs.declared.moves.Move.TheVariants.{Plus, Bind, Branch, Once, Sole, Lower}
 use Rattle.lq_stream.specs.declared.stacks.Frame.TheVariants.{Then, Test, Only, Less, Alone}
 use Rattle.lq_stream.specs.declared.stacks.Link.{Link}
 use Rattle.lq_stream.specs.declared.stacks.Choice.{Choice}

@@ -1,10 +1,10 @@
 -- The tops of the choices of a stream.
-use Rattle.std.proofs.Common.{◌≡◌, ◌≤◌, ◌<◌, ◌⊎◌, ℕ, zero, suc, List, [], ◌∷◌, ◌++◌, length, take, slice_set, slice_get, Option, Some, None, inl, inr, refl, sym, subst, ap, arith, le_refl, le_trans}
+use Rattle.std.proofs.Common.{◌≡◌, ◌≤◌, ℕ, zero, suc, List, [], ◌∷◌, ◌++◌, length, take, slice_set, slice_get, Option, Some, refl, sym, subst, ap, arith, le_refl, le_trans}
 use Rattle.lq_stream.specs.Stepping.{Knowing}
 use Rattle.lq_stream.specs.declared.stacks.Choice.{Choice}
 use Rattle.lq_stream.specs.declared.stacks.Choice.TheVariants.{Alternative, Otherwise, Lowering, Passed, NoSuccess, FirstSuccess}
 use Rattle.lq_stream.specs.Holding.{IsChoice, AreChoices, off_choice, offs}
-use Rattle.lq_stream.specs.Places.{place_in, AreTops, Shrinks, GrowsByOne, newest}
+use Rattle.lq_stream.specs.Places.{place_in, AreTops, Shrinks, newest}
 
 module _ {A V C K : Type 0} where
   pub shrinks_same : (xs : List (Choice A V C K)) → Shrinks xs xs

@@ -1,27 +1,24 @@
 -- The turns of a stream, over plain lists.
-use Rattle.std.proofs.Common.{◌≡◌, ◌≤◌, ◌<◌, ◌+◌, ℕ, zero, suc, List, [], ◌∷◌, ◌++◌, length, take, Result, Ok, Err, None, refl, sym, ◌∙◌, ap, subst, arith}
+use Rattle.std.proofs.Common.{◌≡◌, ◌≤◌, ◌<◌, ℕ, List, [], ◌∷◌, ◌++◌, length, take, Result, Ok, Err, refl, sym, ◌∙◌, ap, subst, arith}
 use Rattle.std.specs.Prelude.{IfOk}
 use Rattle.lq_runs.specs.Runs.{Run, none}
 use Rattle.lq_runs.specs.Machines.{Does, IsLawful, Falls, gives, out, first}
-use Rattle.lq_runs.specs.Stacks as Stacks
-use Rattle.lq_runs.specs.Streams.{Work, runs, moves, has, fails, Shows, work_cost, frames_cost, choices_cost, turns}
+use Rattle.lq_runs.specs.Streams.{runs, moves, Shows, work_cost, turns}
 use Rattle.lq_runs.proofs.StepLaws.{step_moves, step_out, step_falls}
-use Rattle.lq_stream.specs.Stepping.{Telling, Knowing, StaysKnown, ToldAlike, move_of}
+use Rattle.lq_stream.specs.Stepping.{Telling, Knowing, ToldAlike, move_of}
 use Rattle.lq_stream.specs.declared.moves.Move.{Move}
 use Rattle.lq_stream.specs.declared.moves.StepFault.{StepFault}
 use Rattle.lq_stream.specs.declared.stacks.Link.{Link}
 use Rattle.lq_stream.specs.declared.stacks.Choice.{Choice}
 use Rattle.lq_stream.specs.declared.turns.Doing.{Doing}
-use Rattle.lq_stream.specs.declared.turns.Doing.TheVariants.{Run as Running, Success, Failure, Look}
+use Rattle.lq_stream.specs.declared.turns.Doing.TheVariants.{Run as Running, Look}
 use Rattle.lq_stream.specs.declared.turns.Turn.{Turn}
-use Rattle.lq_stream.specs.declared.turns.Turn.TheVariants.{GoesOn, Answered}
+use Rattle.lq_stream.specs.declared.turns.Turn.TheVariants.{GoesOn}
 use Rattle.lq_stream.specs.Reading.{stack_at, choices_onto, choices_of}
-use Rattle.lq_stream.specs.Holding.{AreLinks, AreChoices, HasDoing, HasFirst, Stands}
-use Rattle.lq_stream.specs.Places.{AreTops, Held}
-use Rattle.lq_stream.specs.Turning.{Goes, Spends, Scene, doing_turns, Works, LeadsTo, FallsTo, Turns, TurnHas}
-use Rattle.lq_stream.proofs.Later.{links_known, choices_known, stack_alike, choices_alike, stands_alike}
+use Rattle.lq_stream.specs.Holding.{AreLinks, AreChoices, HasFirst, Stands}
+use Rattle.lq_stream.specs.Turning.{Scene, doing_turns, Works, Turns}
+use Rattle.lq_stream.proofs.Later.{stack_alike, choices_alike}
 use Rattle.lq_stream.proofs.Cutting.{stack_cut, choices_cut}
-use Rattle.lq_stream.proofs.Chaining.{goes_same}
 
 module _ {A R V C K A2 R2 V2 C2 S M : Type 0} (rank : A2 → ℕ) (rest_rank : R2 → ℕ) (d : Does M C2 S V2 A2 R2) where
   -- want of memory

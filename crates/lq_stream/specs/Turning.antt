@@ -1,7 +1,7 @@
 -- What a piece of a stream's work does: what was seen of the run before it is what it tells, and what is seen of the run after it.
-use Rattle.std.specs.Prelude.{◌≡◌, ◌≤◌, ◌<◌, ◌+◌, ℕ, suc, List, [], ◌∷◌, ◌++◌, Result, Ok, Err}
+use Rattle.std.specs.Prelude.{◌≡◌, ◌≤◌, ◌<◌, ◌+◌, ℕ, suc, List, [], ◌++◌, Result, Ok, Err}
 use Rattle.lq_runs.specs.Runs.{Run, Runs}
-use Rattle.lq_runs.specs.Machines.{Does, First, out, heard, seen, Lastly}
+use Rattle.lq_runs.specs.Machines.{Does, out, heard, seen, Lastly}
 use Rattle.lq_runs.specs.Stacks as Stacks
 use Rattle.lq_runs.specs.Streams.{cost, frames_cost, choices_cost}
 use Rattle.lq_stream.specs.Stepping.{Telling, Knowing}

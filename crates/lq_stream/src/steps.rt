@@ -138,11 +138,11 @@ pub(crate) fn refused<M: Machine>(
         (choice_of (M.told machine.old) links choice ∷ hs) }
 {
     match choice {
-        Choice::Alternative(code, mark, at) => {
+        Choice::Alternative(code, saved, at) => {
             if level != 0 {
                 return (Doing::Failure(level - 1, cause), place);
             }
-            machine.undo(mark);
+            machine.undo(saved);
             (Doing::Run(code), at)
         }
         Choice::Otherwise(code, mark, at) => {

@@ -1,4 +1,4 @@
-use Rattle.std.proofs.Common.{rules, ◌≡◌, ◌≤◌, ℕ, length, Ok, Err, refl, ◌∙◌, subst, sym, arith}
+use Rattle.std.proofs.Common.{rules, ◌≤◌, ℕ, length, Ok, Err, refl, subst, arith}
 use Rattle.lq_runs.specs.Runs.{Run}
 use Rattle.lq_stream.specs.declared.moves.StepFault.{StepFault}
 use Rattle.lq_stream.specs.declared.turns.Turn.TheVariants.{GoesOn, Answered}

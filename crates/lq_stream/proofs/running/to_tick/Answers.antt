@@ -1,10 +1,10 @@
-use Rattle.std.proofs.Common.{rules, ◌≡◌, ◌≤◌, ℕ, length, Ok, Err, refl, ◌∙◌, subst, sym, arith}
+use Rattle.std.proofs.Common.{◌≤◌, length, Ok, Err, refl, ◌∙◌, subst, sym, arith}
 use Rattle.std.proofs.lemmas.Result.{err_from_is_err_and}
 use Rattle.lq_stream.specs.declared.turns.Turn.TheVariants.{GoesOn, Answered}
 use Rattle.lq_stream.specs.Holding.{HasDoing}
 use Rattle.lq_stream.specs.Places.{Held}
-use Rattle.lq_stream.specs.Turning.{Works, LeadsTo, Turns, Ticked, TurnHas}
-use Rattle.lq_stream.proofs.Loops.{starts_leading, now_works, on_leads, turn_leads, turn_falls, exits}
+use Rattle.lq_stream.specs.Turning.{Turns, TurnHas}
+use Rattle.lq_stream.proofs.Loops.{starts_leading, now_works, turn_leads, turn_falls, exits}
 use Rattle.lq_stream.proofs.running.to_tick.Goals as goal
 
 pub turns-init : goal.turns-init

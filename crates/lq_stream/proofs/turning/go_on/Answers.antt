@@ -1,11 +1,7 @@
-use Rattle.std.proofs.Common.{rules, ◌≡◌, ◌≤◌, ◌+◌, ℕ, length, take, List, [], ◌∷◌, ◌++◌, ◌∙◌, ap, subst, sym, refl, arith}
-use Rattle.lq_runs.specs.Runs.{Run}
-use Rattle.lq_stream.specs.Holding.{HasDoing, IsChoice, AreChoices}
-use Rattle.lq_stream.specs.Reading.{choices_of}
-use Rattle.lq_stream.proofs.Comings.{answers, finishes, success_goes, failure_goes, look_goes}
-use Rattle.lq_stream.proofs.Later.{doing_known}
-use Rattle.lq_stream.proofs.Tops.{shrinks_front, last_choice}
-use Rattle.lq_stream.proofs.HeldLaws.{none_left, knows_mark, held_shrunk}
+use Rattle.std.proofs.Common.{rules, ◌≡◌, length, take, ◌∙◌, ap}
+use Rattle.lq_stream.specs.Holding.{HasDoing, AreChoices}
+use Rattle.lq_stream.proofs.Comings.{answers, success_goes}
+use Rattle.lq_stream.proofs.HeldLaws.{held_shrunk}
 use Rattle.lq_stream.proofs.turning.go_on.Goals as goal
 
 pub returns-then-place-eq0-clause-turns : goal.returns-then-place-eq0-clause-turns
@@ -15,9 +11,10 @@ returns-then-place-eq0-clause-turns g c =
 pub returns-clause-held : goal.returns-clause-held
 returns-clause-held g c =
     let keeps : AreChoices (g.M.Machine.known c.args.machine.now) (length c.args.stacks.now.links.items) c.succeeded.new.choices.items × HasDoing (g.M.Machine.known c.succeeded.new.machine) c.in_ok-doing.doing = c.in_ok-doing.ensures.keeps (length c.args.stacks.now.links.items) c.requires.held.chosen in
-    let e : c.len.result ≡ length c.succeeded.new.choices.items = search (rules, c.len.ensures) in
-    (held_shrunk (g.M.Machine.known c.args.machine.now) (g.M.Machine.known c.succeeded.new.machine) (g.met.M.Machine.keeps_known c.args.machine.now c.succeeded.new.machine c.in_ok-doing.ensures.later) c.args.stacks.now.links.items c.args.stacks.now.choices.items c.succeeded.new.choices.items c.args.stacks.now.tops.items c.truncate.new.self.items c.requires.held keeps.0 c.in_ok-doing.ensures.shrinks (c.truncate.ensures.items ∙ ap (λ z. take z c.args.stacks.now.tops.items) e),
-    (keeps.1, c.in_ok-doing.ensures.place))
+    let e : c.len.result ≡ length c.succeeded.new.choices.items = search (rules, c.len.ensures) in (
+      held_shrunk (g.M.Machine.known c.args.machine.now) (g.M.Machine.known c.succeeded.new.machine) (g.met.M.Machine.keeps_known c.args.machine.now c.succeeded.new.machine c.in_ok-doing.ensures.later) c.args.stacks.now.links.items c.args.stacks.now.choices.items c.succeeded.new.choices.items c.args.stacks.now.tops.items c.truncate.new.self.items c.requires.held keeps.0 c.in_ok-doing.ensures.shrinks (c.truncate.ensures.items ∙ ap (λ z. take z c.args.stacks.now.tops.items) e),
+      (keeps.1, c.in_ok-doing.ensures.place),
+    )
 
 pub returns-clause-turns : goal.returns-clause-turns
 returns-clause-turns g c =

@@ -1,4 +1,4 @@
-use Rattle.std.proofs.Common.{rules, ◌≡◌, ◌-◌, ◌<◌, suc, length, arith}
+use Rattle.std.proofs.Common.{rules, ◌≡◌, ◌-◌, ◌<◌, length, arith}
 use Rattle.lq_stream.proofs.HeldLaws.{newest_is}
 use Rattle.lq_stream.proofs.turning.newest_top.Goals as goal
 

@@ -1,4 +1,4 @@
-use Rattle.std.proofs.Common.{rules, ◌≡◌, ◌≤◌, ◌<◌, ◌+◌, ◌⊎◌, ℕ, max, length, List, [], ◌∷◌, ◌++◌, subst, arith}
+use Rattle.std.proofs.Common.{rules, ◌≡◌, ◌≤◌, ◌<◌, ◌⊎◌, max, length, List, [], ◌∷◌, ◌++◌, subst, arith}
 use Rattle.std.proofs.lemmas.Result.{err_from_is_err_and}
 use Rattle.lq_runs.specs.Runs.{none}
 use Rattle.lq_runs.specs.Machines.{first, gives}
@@ -27,13 +27,15 @@ returns-clause-held g c =
     let h : Held (g.M.Machine.known c.step.new.self) c.cut.new.links.items c.args.stacks.now.choices.items c.args.stacks.now.tops.items = held_cut_later (g.M.Machine.known c.args.machine.now) (g.M.Machine.known c.step.new.self) (g.met.M.Machine.keeps_known c.args.machine.now c.step.new.self c.step.ensures.later) c.args.stacks.now.links.items c.args.stacks.now.choices.items c.args.stacks.now.choices.items c.args.stacks.now.tops.items c.args.stacks.now.tops.items c.cut.new.links.items c.args.place c.requires.held c.requires.place c.cut.ensures in
     let e : c.len.result ≡ length c.moved.new.choices.items = search (rules, c.len.ensures) in
     let i : c.len-2.result ≡ length c.moved.new.links.items = search (rules, c.len-2.ensures) in
-    let o : ((length c.args.stacks.now.tops.items < c.len.result) × (c.cover.new.tops.items ≡ c.args.stacks.now.tops.items ++ c.len-2.result ∷ [])) ⊎ ((c.len.result ≤ length c.args.stacks.now.tops.items) × (c.cover.new.tops.items ≡ c.args.stacks.now.tops.items)) = c.in_ok-cover.ensures in
-    (record {
-      linked = c.in_ok-doing.ensures.links;
-      chosen = c.in_ok-doing.ensures.choices;
-      topped = tops_covered (g.M.Machine.known c.step.new.self) (length c.cut.new.links.items) (length c.moved.new.links.items) c.len.result c.args.stacks.now.tops.items c.cover.new.tops.items c.args.stacks.now.choices.items c.moved.new.choices.items h.topped c.in_ok-doing.ensures.grown c.in_ok-doing.ensures.longer c.in_ok-doing.ensures.choices e
-          (subst (λ z. ((length c.args.stacks.now.tops.items < c.len.result) × (c.cover.new.tops.items ≡ c.args.stacks.now.tops.items ++ z ∷ [])) ⊎ ((c.len.result ≤ length c.args.stacks.now.tops.items) × (c.cover.new.tops.items ≡ c.args.stacks.now.tops.items))) i o);
-    }, (c.in_ok-doing.ensures.doing, c.in_ok-doing.ensures.place))
+    let o : ((length c.args.stacks.now.tops.items < c.len.result) × (c.cover.new.tops.items ≡ c.args.stacks.now.tops.items ++ c.len-2.result ∷ [])) ⊎ ((c.len.result ≤ length c.args.stacks.now.tops.items) × (c.cover.new.tops.items ≡ c.args.stacks.now.tops.items)) = c.in_ok-cover.ensures in (
+      record {
+        linked = c.in_ok-doing.ensures.links;
+        chosen = c.in_ok-doing.ensures.choices;
+        topped = tops_covered (g.M.Machine.known c.step.new.self) (length c.cut.new.links.items) (length c.moved.new.links.items) c.len.result c.args.stacks.now.tops.items c.cover.new.tops.items c.args.stacks.now.choices.items c.moved.new.choices.items h.topped c.in_ok-doing.ensures.grown c.in_ok-doing.ensures.longer c.in_ok-doing.ensures.choices e
+            (subst (λ z. ((length c.args.stacks.now.tops.items < c.len.result) × (c.cover.new.tops.items ≡ c.args.stacks.now.tops.items ++ z ∷ [])) ⊎ ((c.len.result ≤ length c.args.stacks.now.tops.items) × (c.cover.new.tops.items ≡ c.args.stacks.now.tops.items))) i o);
+      },
+      (c.in_ok-doing.ensures.doing, c.in_ok-doing.ensures.place),
+    )
 
 pub returns-clause-turns : goal.returns-clause-turns
 returns-clause-turns g c =
