@@ -1,0 +1,18 @@
+pub mod Computing
+pub mod Said
+pub mod GoodLaws
+pub mod BinderReading
+pub mod TermReading
+pub mod CheckReading
+pub mod Fronts
+pub mod NameLexing
+pub mod SignLexing
+pub mod Pieces
+pub mod Gathering
+pub mod TokenWords
+pub mod PrintedPieces
+mod Samples
+mod TermRows
+mod FaultRows
+mod ViewRows
+mod AgainRows

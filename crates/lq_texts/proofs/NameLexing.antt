@@ -1,0 +1,211 @@
+-- A name before a blank, a bracket or a comma is one token.
+use Rattle.std.proofs.Common.{◌≡◌, ℕ, zero, suc, ◌+◌, ◌-◌, ◌<◌, ◌≤◌, Bool, true, false, List, [], ◌∷◌, ◌++◌, drop, length, length-append, length-drop, Option, Some, None, refl, sym, ap, ◌∙◌, subst, arith, inl, inr, append_assoc, if◌then◌else◌}
+use Rattle.std.specs.Prelude.{◌⊎◌, ◌&&◌, nat_lt}
+use Rattle.std.proofs.lemmas.Bool.{le-ltb, ltb-false, ltb-true}
+use Rattle.std.proofs.lemmas.List.{drop-append-le}
+use Rattle.bstr.specs.Utf8.{decoded}
+use Rattle.bstr.proofs.lemmas.PieceLemmas.{piece-bounds}
+use Rattle.lq_grammar.specs.declared.fault.LexFault.TheVariants.{BadChar}
+use Rattle.lq_grammar.specs.declared.token.Class.{Class}
+use Rattle.lq_grammar.specs.declared.token.Class.TheVariants as class
+use Rattle.lq_grammar.specs.declared.token.TokenKind.{TokenKind}
+use Rattle.lq_grammar.specs.declared.token.TokenKind.TheVariants as kind
+use Rattle.lq_grammar.specs.Cells.{Cells, over, broken, beyond, letter, cells_from, place, front, past, goes_on, view}
+use Rattle.lq_grammar.specs.Tokens.{Found, bound, word, crossing, flaw, token, continues_name, longest_name, name_at, class_of, found_at, found}
+use Rattle.lq_grammar.proofs.CellLaws.{place-view}
+use Rattle.lq_grammar.proofs.Computing.{cutting}
+use Rattle.lq_texts.proofs.Fronts.{decoded_more, decoded_ascii, Shows, shows_in, shows_ascii, shown_front, drop_next, drop_behind}
+
+-- a blank, a closing bracket or a comma
+pub data IsEnd : ℕ → Type 0 where
+  end_blank : IsEnd 32
+  end_close : IsEnd 41
+  end_comma : IsEnd 44
+
+-- the bytes begin with one of these
+abbrev pub Ends : List ℕ → Type 0
+Ends [] = ⊥
+Ends (b ∷ bs) = IsEnd b
+
+pub end_ascii : (b : ℕ) → IsEnd b → b < 128
+end_ascii b end_blank = omega arith
+end_ascii b end_close = omega arith
+end_ascii b end_comma = omega arith
+
+pub end_stops : (b : ℕ) → IsEnd b → continues_name b ≡ false
+unfolding cutting
+end_stops b end_blank = refl
+end_stops b end_close = refl
+end_stops b end_comma = refl
+
+-- the bytes decode, and their characters pass a test
+pub data Run (test : ℕ → Bool) : List ℕ → Type 0 where
+  run_end : Run test []
+  run_more : {bs : List ℕ} {c : ℕ} → (decoded bs).char ≡ Some c → test c ≡ true → Run test (drop (decoded bs).size bs) → Run test bs
+
+size_within : (bs : List ℕ) (c : ℕ) → (decoded bs).char ≡ Some c → (1 ≤ (decoded bs).size) × ((decoded bs).size ≤ length bs)
+size_within [] c e = absurd cc
+size_within (b ∷ bs) c e = let s = piece-bounds (b ∷ bs) (omega arith) in (s.0, s.2)
+
+-- ---- the run of characters
+
+module _ (test : ℕ → Bool) where
+  pub past_yes : (p c : ℕ) (cs : Cells) → test c ≡ true → past test (letter p c cs) ≡ past test cs
+  unfolding past
+  past_yes p c cs e = step (test c) e
+    where
+      step : (b : Bool) → b ≡ true → elim b as (λ _. Cells) [ true ↦ past test cs | false ↦ letter p c cs ] ≡ past test cs
+      step true f = refl
+      step false f = absurd cc
+
+  past_none : (p c : ℕ) (cs : Cells) → test c ≡ false → past test (letter p c cs) ≡ letter p c cs
+  unfolding past
+  past_none p c cs e = step (test c) e
+    where
+      step : (b : Bool) → b ≡ false → elim b as (λ _. Cells) [ true ↦ past test cs | false ↦ letter p c cs ] ≡ letter p c cs
+      step true f = absurd cc
+      step false f = refl
+
+  past_beyond : (p c : ℕ) → past test (beyond p c) ≡ beyond p c
+  unfolding past
+  past_beyond p c = refl
+
+  -- no run where the first character does not pass
+  pub past_stays : (L : ℕ) (text : List ℕ) (at c n : ℕ) → Shows L text at c n → test c ≡ false → (past test (view L text at) ≡ view L text at) × (goes_on test (view L text at) ≡ false)
+  unfolding goes_on
+  past_stays L text at c n (inl s) e = (ap (past test) s.1 ∙ past_none at c _ e ∙ sym s.1, ap (goes_on test) s.1)
+  past_stays L text at c n (inr s) e = (ap (past test) s.1 ∙ past_beyond at c ∙ sym s.1, ap (goes_on test) s.1 ∙ e)
+
+  -- the run ends within the bound, or goes on behind it
+  abbrev pub RunsTo : ℕ → List ℕ → ℕ → ℕ → Type 0
+  RunsTo L text at stop =
+      ((stop ≤ L) × (past test (view L text at) ≡ view L text stop) × (goes_on test (view L text stop) ≡ false))
+      ⊎ ((L < stop) × (goes_on test (past test (view L text at)) ≡ true) × (place (past test (view L text at)) ≤ stop))
+
+  runs_on : (L : ℕ) (text : List ℕ) (at c n stop : ℕ) → Shows L text at c n → test c ≡ true → at + n ≤ stop → (at + n ≤ L → RunsTo L text (at + n) stop) → RunsTo L text at stop
+  unfolding goes_on place
+  runs_on L text at c n stop (inl s) e h r = through (r s.0)
+    where
+      f : past test (view L text at) ≡ past test (view L text (at + n))
+      f = ap (past test) s.1 ∙ past_yes at c _ e
+
+      through : RunsTo L text (at + n) stop → RunsTo L text at stop
+      through (inl r) = inl (r.0, f ∙ r.1, r.2)
+      through (inr r) = inr (r.0, ap (goes_on test) f ∙ r.1, subst (λ cs. place cs ≤ stop) (sym f) r.2)
+  runs_on L text at c n stop (inr s) e h r =
+      let f = ap (past test) s.1 ∙ past_beyond at c in
+      inr (omega (arith, s.0, h), ap (goes_on test) f ∙ e, subst (λ cs. place cs ≤ stop) (sym f) (omega arith))
+
+  pub run_to : (L : ℕ) (text : List ℕ) (at b : ℕ) (bs more : List ℕ) → Run test bs → at ≤ L → drop at text ≡ bs ++ (b ∷ more) → b < 128 → test b ≡ false → RunsTo L text at (at + length bs)
+  run_to L text at b bs more run_end h e low stops =
+      let P : ℕ → Type 0 = λ stop. RunsTo L text at stop in
+      let same : at ≡ at + 0 = omega arith in
+      let s = past_stays L text at b 1 (shows_ascii L text at b more e low) stops in
+      subst P same (inl (h, s.0, s.1))
+  run_to L text at b bs more (run_more {c = c} f g r) h e low stops =
+      let n = (decoded bs).size in
+      let s = size_within bs c f in
+      let len = length-drop n bs in
+      let same : at + n + length (drop n bs) ≡ at + length bs = omega (arith, s.1, len) in
+      let behind = drop_next text at n (bs ++ (b ∷ more)) e ∙ drop-append-le n bs (b ∷ more) s.1 in
+      runs_on L text at c n (at + length bs) (shows_in L text at bs (b ∷ more) c e f) g (omega (arith, s.1))
+      (λ low_at. subst (λ stop. RunsTo L text (at + n) stop) same (run_to L text (at + n) b (drop n bs) more r low_at behind low stops))
+
+-- ---- what a name is made of
+
+-- the character that some bytes begin with, 0 where they begin with none
+abbrev char_of : Option ℕ → ℕ
+char_of None = 0
+char_of (Some c) = c
+
+abbrev pub first_char : List ℕ → ℕ
+first_char bs = char_of (decoded bs).char
+
+-- the first character begins a name, the others go on with it, and it is not too long
+pub record IsLexed (x : List ℕ) : Type 0 where
+  pub initial : ℕ
+  pub begins : (decoded x).char ≡ Some initial
+  pub named : class_of false initial (first_char (drop (decoded x).size x)) ≡ class.Name
+  pub others : Run continues_name (drop (decoded x).size x)
+  pub short : length x ≤ longest_name
+
+-- behind a name stands what the first character of a name may stand before
+class_end : (c d : ℕ) → IsEnd d → class_of false c 0 ≡ class_of false c d
+unfolding cutting
+class_end c d end_blank = refl
+class_end c d end_close = refl
+class_end c d end_comma = refl
+
+class_first : (c d : ℕ) → IsEnd d → (r more : List ℕ) → class_of false c (first_char r) ≡ class.Name → Run continues_name r → class_of false c (first_char (r ++ (d ∷ more))) ≡ class.Name
+class_first c d e [] more h run_end = ap (class_of false c) (ap char_of (decoded_ascii d more (end_ascii d e)).0) ∙ sym (class_end c d e) ∙ h
+class_first c d e (b ∷ bs) more h (run_more {c = x} f g r) = ap (class_of false c) (ap char_of (ap (λ y. y.char) (decoded_more (b ∷ bs) (d ∷ more) x f))) ∙ h
+class_first c d e [] more h (run_more f g r) = absurd cc
+
+-- found at the front: the token, or only a bound
+abbrev pub Stopped : Found → Type 0
+Stopped f = (f ≡ bound) ⊎ ((k : TokenKind) × (f ≡ crossing k))
+
+-- a token that ends within the bound is found, one that ends behind it is not
+abbrev pub FoundTo : ℕ → List ℕ → ℕ → ℕ → TokenKind → Type 0
+FoundTo L text at stop k =
+    ((stop ≤ L) × (found false (view L text at) ≡ word (record { kind = k; start = at; end = stop }) (view L text stop)))
+    ⊎ ((L < stop) × Stopped (found false (view L text at)))
+
+name_by : (L : ℕ) (text : List ℕ) (at from stop : ℕ) → stop - at ≤ longest_name → RunsTo continues_name L text from stop →
+    ((stop ≤ L) × (name_at at (view L text from) ≡ word (record { kind = kind.Name; start = at; end = stop }) (view L text stop))) ⊎ ((L < stop) × (name_at at (view L text from) ≡ crossing kind.Name))
+unfolding name_at
+name_by L text at from stop short (inl r) =
+    inl (r.0, rw r.1 (rw (place-view L text stop, le-ltb longest_name (stop - at) short, r.2) refl))
+name_by L text at from stop short (inr r) =
+    let small : place (past continues_name (view L text from)) - at ≤ longest_name = omega (arith, r.2, short) in
+    inr (r.0, rw (le-ltb longest_name (place (past continues_name (view L text from)) - at) small, r.1) refl)
+
+found_letter : (p c : ℕ) (cs : Cells) → found false (letter p c cs) ≡ found_at (class_of false c (front cs)) p c cs
+unfolding found
+found_letter p c cs = refl
+
+found_beyond : (p c : ℕ) → found false (beyond p c) ≡ bound
+unfolding found
+found_beyond p c = refl
+
+at_name : (p c : ℕ) (cs : Cells) → found_at class.Name p c cs ≡ name_at p cs
+unfolding found_at
+at_name p c cs = refl
+
+front_next : (L : ℕ) (text : List ℕ) (at d : ℕ) (r more : List ℕ) → IsEnd d → Run continues_name r → drop at text ≡ r ++ (d ∷ more) → front (view L text at) ≡ first_char (r ++ (d ∷ more))
+front_next L text at d [] more h run_end e =
+    shown_front L text at d 1 (shows_ascii L text at d more e (end_ascii d h)) ∙ sym (ap char_of (decoded_ascii d more (end_ascii d h)).0)
+front_next L text at d r more h (run_more {c = c} f g rest) e =
+    shown_front L text at c (decoded r).size (shows_in L text at r (d ∷ more) c e f) ∙ sym (ap char_of (ap (λ y. y.char) (decoded_more r (d ∷ more) c f) ∙ f))
+
+-- a name before a blank, a bracket or a comma
+pub name_found : (L : ℕ) (text : List ℕ) (at d : ℕ) (x more : List ℕ) → IsEnd d → IsLexed x → drop at text ≡ x ++ (d ∷ more) → FoundTo L text at (at + length x) kind.Name
+name_found L text at d x more h l e = by (shows_in L text at x (d ∷ more) l.initial e l.begins)
+  where
+    n : ℕ
+    n = (decoded x).size
+
+    sizes : (1 ≤ n) × (n ≤ length x)
+    sizes = size_within x l.initial l.begins
+
+    behind : drop (at + n) text ≡ drop n x ++ (d ∷ more)
+    behind = drop_next text at n (x ++ (d ∷ more)) e ∙ drop-append-le n x (d ∷ more) sizes.1
+
+    class_is : class_of false l.initial (front (view L text (at + n))) ≡ class.Name
+    class_is = ap (class_of false l.initial) (front_next L text (at + n) d (drop n x) more h l.others behind) ∙ class_first l.initial d h (drop n x) more l.named l.others
+
+    by : Shows L text at l.initial n → FoundTo L text at (at + length x) kind.Name
+    by (inr s) = inr (omega (arith, s.0, sizes.1), inl (ap (found false) s.1 ∙ found_beyond at l.initial))
+    by (inl s) =
+        let len = length-drop n x in
+        let same : at + n + length (drop n x) ≡ at + length x = omega (arith, sizes.1, len) in
+        let runs = subst (λ stop. RunsTo continues_name L text (at + n) stop) same (run_to continues_name L text (at + n) d (drop n x) more l.others s.0 behind (end_ascii d h) (end_stops d h)) in
+        let here = ap (found false) s.1 ∙ found_letter at l.initial _ ∙ ap (λ k. found_at k at l.initial (view L text (at + n))) class_is ∙ at_name at l.initial _ in
+        let small : at + length x - at ≤ longest_name = omega (arith, l.short) in
+        told here (name_by L text at (at + n) (at + length x) small runs)
+      where
+        told : found false (view L text at) ≡ name_at at (view L text (at + n)) →
+            ((at + length x ≤ L) × (name_at at (view L text (at + n)) ≡ word (record { kind = kind.Name; start = at; end = at + length x }) (view L text (at + length x)))) ⊎ ((L < at + length x) × (name_at at (view L text (at + n)) ≡ crossing kind.Name)) →
+            FoundTo L text at (at + length x) kind.Name
+        told here (inl r) = inl (r.0, here ∙ r.1)
+        told here (inr r) = inr (r.0, inr (kind.Name, here ∙ r.1))
