@@ -11,6 +11,8 @@ pub mod Pieces
 pub mod Gathering
 pub mod TokenWords
 pub mod PrintedPieces
+pub mod FinePieces
+pub mod ReadSurface
 mod Samples
 mod TermRows
 mod FaultRows

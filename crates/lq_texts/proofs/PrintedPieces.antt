@@ -23,15 +23,15 @@ level app = 1
 level alone = 2
 
 -- whether a term with a binder or an arrow, an application is put in brackets there
-abbrev pub round_open : Want → Bool
+unfoldable pub round_open : Want → Bool
 round_open any = false
 round_open _ = true
 
-abbrev pub round_app : Want → Bool
+unfoldable pub round_app : Want → Bool
 round_app alone = true
 round_app _ = false
 
-abbrev pub in_round : Bool → List Piece → List Piece
+unfoldable pub in_round : Bool → List Piece → List Piece
 in_round false ps = ps
 in_round true ps = said (symbol OpenRound) ∷ (ps ++ said (symbol CloseRound) ∷ [])
 
@@ -76,11 +76,157 @@ binder_text [] = refl
 binder_text (b ∷ bs) = refl
 
 round_is : (k : Want) → (nat_lt 0 (level k) ≡ round_open k) × (nat_lt 1 (level k) ≡ round_app k)
+unfolding round_open round_app
 round_is any = (refl, refl)
 round_is app = (refl, refl)
 round_is alone = (refl, refl)
 
 round_bytes : (b : Bool) (xs : List ℕ) (ps : List Piece) → xs ≡ bytes ps → in_brackets b xs ≡ bytes (in_round b ps)
-unfolding in_brackets
+unfolding in_brackets in_round
 round_bytes false xs ps e = e
 round_bytes true xs ps e = ap (λ ys. 40 ∷ (ys ++ 41 ∷ [])) e ∙ ap (λ ys. 40 ∷ ys) (sym (bytes_append ps (said (symbol CloseRound) ∷ [])))
+
+joined : (xs ys : List ℕ) (ps sep qs : List Piece) → xs ≡ bytes ps → ys ≡ bytes qs → xs ++ (bytes sep ++ ys) ≡ bytes (ps ++ (sep ++ qs))
+joined xs ys ps sep qs e f =
+    ap (λ a. a ++ (bytes sep ++ ys)) e ∙ ap (λ b. bytes ps ++ (bytes sep ++ b)) f
+    ∙ sym (bytes_append ps (sep ++ qs) ∙ ap (λ b. bytes ps ++ b) (bytes_append sep qs))
+
+-- a term with a binder or an arrow, an application
+rounded : (k : Want) (s : Surface) (xs : List ℕ) (ps : List Piece) → text (level k) s ≡ in_brackets (nat_lt 0 (level k)) xs → pieces k s ≡ in_round (round_open k) ps → xs ≡ bytes ps → text (level k) s ≡ bytes (pieces k s)
+rounded k s xs ps t p e = t ∙ ap (λ b. in_brackets b xs) (round_is k).0 ∙ round_bytes (round_open k) xs ps e ∙ ap bytes (sym p)
+
+rounded_app : (k : Want) (s : Surface) (xs : List ℕ) (ps : List Piece) → text (level k) s ≡ in_brackets (nat_lt 1 (level k)) xs → pieces k s ≡ in_round (round_app k) ps → xs ≡ bytes ps → text (level k) s ≡ bytes (pieces k s)
+rounded_app k s xs ps t p e = t ∙ ap (λ b. in_brackets b xs) (round_is k).1 ∙ round_bytes (round_app k) xs ps e ∙ ap bytes (sym p)
+
+regroup : (h n c a s t : List ℕ) → (((h ++ n) ++ (c ++ a)) ++ s) ++ t ≡ h ++ (n ++ (c ++ (a ++ (s ++ t))))
+regroup h n c a s t = simp append_assoc
+
+-- `head x : A`, a sign and a term
+bound_text : (head : List ℕ) (x : Name) (A t : Surface) (sep : List Piece) → text 0 A ≡ bytes (pieces any A) → text 0 t ≡ bytes (pieces any t) →
+    (((head ++ name_text x) ++ (codes " : " ++ text 0 A)) ++ bytes sep) ++ text 0 t ≡ head ++ (spelling (bound_word x) ++ (codes " : " ++ bytes (pieces any A ++ (sep ++ pieces any t))))
+bound_text head x A t sep e f =
+    regroup head (name_text x) (codes " : ") (text 0 A) (bytes sep) (text 0 t)
+    ∙ ap (λ n. head ++ (n ++ (codes " : " ++ (text 0 A ++ (bytes sep ++ text 0 t))))) (binder_text x)
+    ∙ ap (λ ys. head ++ (spelling (bound_word x) ++ (codes " : " ++ ys))) (joined (text 0 A) (text 0 t) (pieces any A) sep (pieces any t) e f)
+
+gather : (h n c a s v i t : List ℕ) → ((h ++ (n ++ (c ++ (a ++ (s ++ v))))) ++ i) ++ t ≡ h ++ (n ++ (c ++ (a ++ (s ++ (v ++ (i ++ t))))))
+gather h n c a s v i t = simp append_assoc
+
+let_text : (x : Name) (A v t : Surface) → text 0 A ≡ bytes (pieces any A) → text 0 v ≡ bytes (pieces any v) → text 0 t ≡ bytes (pieces any t) →
+    (((((codes "let " ++ name_text x) ++ (codes " : " ++ text 0 A)) ++ codes " := ") ++ text 0 v) ++ codes " in ") ++ text 0 t
+    ≡ codes "let " ++ (spelling (bound_word x) ++ (codes " : " ++ bytes (pieces any A ++ blank ∷ said (symbol ColonEqual) ∷ blank ∷ (pieces any v ++ blank ∷ said (name (codes "in")) ∷ blank ∷ pieces any t))))
+let_text x A v t e f g =
+    let inner = joined (text 0 v) (text 0 t) (pieces any v) (blank ∷ said (name (codes "in")) ∷ blank ∷ []) (pieces any t) f g in
+    let outer = joined (text 0 A) (text 0 v ++ (codes " in " ++ text 0 t)) (pieces any A) (blank ∷ said (symbol ColonEqual) ∷ blank ∷ []) (pieces any v ++ blank ∷ said (name (codes "in")) ∷ blank ∷ pieces any t) e inner in
+    ap (λ ys. (ys ++ codes " in ") ++ text 0 t) (regroup (codes "let ") (name_text x) (codes " : ") (text 0 A) (codes " := ") (text 0 v))
+    ∙ gather (codes "let ") (name_text x) (codes " : ") (text 0 A) (codes " := ") (text 0 v) (codes " in ") (text 0 t)
+    ∙ ap (λ n. codes "let " ++ (n ++ (codes " : " ++ (text 0 A ++ (codes " := " ++ (text 0 v ++ (codes " in " ++ text 0 t))))))) (binder_text x)
+    ∙ ap (λ ys. codes "let " ++ (spelling (bound_word x) ++ (codes " : " ++ ys))) outer
+
+pub text_pieces : (s : Surface) → IsSpoken s → (k : Want) → text (level k) s ≡ bytes (pieces k s)
+unfolding text kind_text pieces
+text_pieces (Forall x (Written A) t) h k = rounded k (Forall x (Written A) t) _ _ refl refl (bound_text (codes "forall ") x A t (said (symbol Comma) ∷ blank ∷ []) (text_pieces A h.1 any) (text_pieces t h.2 any))
+text_pieces (Fun x (Written A) t) h k =
+    rounded k (Fun x (Written A) t) _ _ refl refl (bound_text (codes "fun ") x A t (blank ∷ said (symbol FatArrow) ∷ blank ∷ []) (text_pieces A h.1 any) (text_pieces t h.2 any))
+text_pieces (LetIn x (Written A) v t) h k = rounded k (LetIn x (Written A) v t) _ _ refl refl (let_text x A v t (text_pieces A h.1 any) (text_pieces v h.2 any) (text_pieces t h.3 any))
+text_pieces (Arrow a b) h k =
+    rounded k (Arrow a b) _ _ refl refl (append_assoc (text 1 a) (codes " -> ") (text 0 b) ∙ joined (text 1 a) (text 0 b) (pieces app a) (blank ∷ said (symbol ArrowSign) ∷ blank ∷ []) (pieces any b) (text_pieces a h.0 app) (text_pieces b h.1 any))
+text_pieces (Applied f a) h k = rounded_app k (Applied f a) _ _ refl refl (append_assoc (text 1 f) (codes " ") (text 2 a) ∙ joined (text 1 f) (text 2 a) (pieces app f) (blank ∷ []) (pieces alone a) (text_pieces f h.0 app) (text_pieces a h.1 alone))
+text_pieces (Ident x) h k = sym (append-nil x)
+text_pieces PropSort h k = refl
+text_pieces (TypeSort i) h k = ap (λ ds. codes "Type " ++ ds) (sym (append-nil (decimal i)))
+text_pieces _ h k = absurd h
+
+-- ---- the words are a printed term
+
+pub split : (at : ℕ) (ps qs : List Piece) (rest : Words) → placed at (ps ++ qs) ++ rest ≡ placed at ps ++ (placed (at + length (bytes ps)) qs ++ rest)
+split at ps qs rest = ap (λ ws. ws ++ rest) (placed_append at ps qs) ∙ append_assoc (placed at ps) (placed (at + length (bytes ps)) qs) rest
+
+-- the pieces of a term, wherever they stand
+pub record Says (s : Surface) : Type 0 where
+  pub term : (at : ℕ) (rest : Words) → Said s (placed at (pieces any s) ++ rest) rest
+  pub spine : (at : ℕ) (rest : Words) → Spine s (placed at (pieces app s) ++ rest) rest
+  pub atom : (at : ℕ) (rest : Words) → Atom s (placed at (pieces alone s) ++ rest) rest
+
+round_atom : (s : Surface) (ps : List Piece) → ((at : ℕ) (rest : Words) → Said s (placed at ps ++ rest) rest) → (at : ℕ) (rest : Words) → Atom s (placed at (in_round true ps) ++ rest) rest
+unfolding in_round
+round_atom s ps d at rest =
+    subst (λ us. Atom s ((symbol OpenRound, at) ∷ us) rest) (sym (split (at + 1) ps (said (symbol CloseRound) ∷ []) rest))
+    (atom_brackets (d (at + 1) ((symbol CloseRound, at + 1 + length (bytes ps)) ∷ rest)))
+
+free_binder : (x : Name) → IsBinder x → IsFreeBinder x
+free_binder [] h = tt
+free_binder (b ∷ bs) h = h.free
+
+-- a term with a binder or an arrow
+says_open : (s : Surface) (ps : List Piece) → pieces any s ≡ ps → pieces app s ≡ in_round true ps → pieces alone s ≡ in_round true ps → ((at : ℕ) (rest : Words) → Said s (placed at ps ++ rest) rest) → Says s
+says_open s ps e f g d = record {
+  term = λ at rest. subst (λ qs. Said s (placed at qs ++ rest) rest) (sym e) (d at rest);
+  spine = λ at rest. subst (λ qs. Spine s (placed at qs ++ rest) rest) (sym f) (spine_atom (round_atom s ps d at rest));
+  atom = λ at rest. subst (λ qs. Atom s (placed at qs ++ rest) rest) (sym g) (round_atom s ps d at rest);
+}
+
+says_alone : (s : Surface) (ps : List Piece) → ((k : Want) → pieces k s ≡ ps) → ((at : ℕ) (rest : Words) → Atom s (placed at ps ++ rest) rest) → Says s
+says_alone s ps e d = record {
+  term = λ at rest. subst (λ qs. Said s (placed at qs ++ rest) rest) (sym (e any)) (said_spine (spine_atom (d at rest)));
+  spine = λ at rest. subst (λ qs. Spine s (placed at qs ++ rest) rest) (sym (e app)) (spine_atom (d at rest));
+  atom = λ at rest. subst (λ qs. Atom s (placed at qs ++ rest) rest) (sym (e alone)) (d at rest);
+}
+
+abbrev two : Surface → List Piece → Surface → List Piece
+two A sep t = pieces any A ++ (sep ++ pieces any t)
+
+forall_said : (x : Name) (A t : Surface) → IsBinder x → Says A → Says t → (at : ℕ) (rest : Words) →
+    Said (Forall x (Written A) t) (placed at (said (name (codes "forall")) ∷ blank ∷ said (bound_word x) ∷ blank ∷ said (symbol Colon) ∷ blank ∷ two A (said (symbol Comma) ∷ blank ∷ []) t) ++ rest) rest
+forall_said x A t h a b at rest =
+    let p : ℕ = at + 6 + 1 + length (spelling (bound_word x)) + 1 + 1 + 1 in
+    subst (λ us. Said (Forall x (Written A) t) ((name (codes "forall"), at) ∷ (bound_word x, at + 6 + 1) ∷ (symbol Colon, at + 6 + 1 + length (spelling (bound_word x)) + 1) ∷ us) rest)
+    (sym (split p (pieces any A) (said (symbol Comma) ∷ blank ∷ pieces any t) rest))
+    (said_forall (free_binder x h) (a.term p _) (b.term _ rest))
+
+fun_said : (x : Name) (A t : Surface) → IsBinder x → Says A → Says t → (at : ℕ) (rest : Words) →
+    Said (Fun x (Written A) t) (placed at (said (name (codes "fun")) ∷ blank ∷ said (bound_word x) ∷ blank ∷ said (symbol Colon) ∷ blank ∷ two A (blank ∷ said (symbol FatArrow) ∷ blank ∷ []) t) ++ rest) rest
+fun_said x A t h a b at rest =
+    let p : ℕ = at + 3 + 1 + length (spelling (bound_word x)) + 1 + 1 + 1 in
+    subst (λ us. Said (Fun x (Written A) t) ((name (codes "fun"), at) ∷ (bound_word x, at + 3 + 1) ∷ (symbol Colon, at + 3 + 1 + length (spelling (bound_word x)) + 1) ∷ us) rest)
+    (sym (split p (pieces any A) (blank ∷ said (symbol FatArrow) ∷ blank ∷ pieces any t) rest))
+    (said_fun (free_binder x h) (a.term p _) (b.term _ rest))
+
+let_said : (x : Name) (A v t : Surface) → IsBinder x → Says A → Says v → Says t → (at : ℕ) (rest : Words) →
+    Said (LetIn x (Written A) v t)
+    (placed at (said (name (codes "let")) ∷ blank ∷ said (bound_word x) ∷ blank ∷ said (symbol Colon) ∷ blank ∷ (pieces any A ++ blank ∷ said (symbol ColonEqual) ∷ blank ∷ two v (blank ∷ said (name (codes "in")) ∷ blank ∷ []) t)) ++ rest) rest
+let_said x A v t h a b c at rest =
+    let p : ℕ = at + 3 + 1 + length (spelling (bound_word x)) + 1 + 1 + 1 in
+    let q : ℕ = p + length (bytes (pieces any A)) + 1 + 2 + 1 in
+    subst (λ us. Said (LetIn x (Written A) v t) ((name (codes "let"), at) ∷ (bound_word x, at + 3 + 1) ∷ (symbol Colon, at + 3 + 1 + length (spelling (bound_word x)) + 1) ∷ us) rest)
+    (sym (split p (pieces any A) (blank ∷ said (symbol ColonEqual) ∷ blank ∷ two v (blank ∷ said (name (codes "in")) ∷ blank ∷ []) t) rest
+    ∙ ap (λ us. placed p (pieces any A) ++ ((symbol ColonEqual, p + length (bytes (pieces any A)) + 1) ∷ us)) (split q (pieces any v) (blank ∷ said (name (codes "in")) ∷ blank ∷ pieces any t) rest)))
+    (said_let (free_binder x h) (a.term p _) (b.term q _) (c.term _ rest))
+
+arrow_said : (a b : Surface) → Says a → Says b → (at : ℕ) (rest : Words) → Said (Arrow a b) (placed at (pieces app a ++ blank ∷ said (symbol ArrowSign) ∷ blank ∷ pieces any b) ++ rest) rest
+arrow_said a b d e at rest =
+    subst (λ us. Said (Arrow a b) us rest) (sym (split at (pieces app a) (blank ∷ said (symbol ArrowSign) ∷ blank ∷ pieces any b) rest)) (said_arrow (d.spine at _) (e.term _ rest))
+
+applied_said : (f a : Surface) → Says f → Says a → (at : ℕ) (rest : Words) → Spine (Applied f a) (placed at (pieces app f ++ blank ∷ pieces alone a) ++ rest) rest
+applied_said f a d e at rest =
+    subst (λ us. Spine (Applied f a) us rest) (sym (split at (pieces app f) (blank ∷ pieces alone a) rest)) (spine_applied (d.spine at _) (e.atom _ rest))
+
+says_applied : (s : Surface) (ps : List Piece) → pieces any s ≡ ps → pieces app s ≡ ps → pieces alone s ≡ in_round true ps → ((at : ℕ) (rest : Words) → Spine s (placed at ps ++ rest) rest) → Says s
+says_applied s ps e f g d = record {
+  term = λ at rest. subst (λ qs. Said s (placed at qs ++ rest) rest) (sym e) (said_spine (d at rest));
+  spine = λ at rest. subst (λ qs. Spine s (placed at qs ++ rest) rest) (sym f) (d at rest);
+  atom = λ at rest. subst (λ qs. Atom s (placed at qs ++ rest) rest) (sym g) (round_atom s ps (λ at rest. said_spine (d at rest)) at rest);
+}
+
+-- printed pieces are a printed term in words
+pub says : (s : Surface) → IsSpoken s → Says s
+unfolding pieces in_round round_open round_app
+says (Forall x (Written A) t) h = says_open (Forall x (Written A) t) _ refl refl refl (forall_said x A t h.0 (says A h.1) (says t h.2))
+says (Fun x (Written A) t) h = says_open (Fun x (Written A) t) _ refl refl refl (fun_said x A t h.0 (says A h.1) (says t h.2))
+says (LetIn x (Written A) v t) h = says_open (LetIn x (Written A) v t) _ refl refl refl (let_said x A v t h.0 (says A h.1) (says v h.2) (says t h.3))
+says (Arrow a b) h = says_open (Arrow a b) _ refl refl refl (arrow_said a b (says a h.0) (says b h.1))
+says (Applied f a) h = says_applied (Applied f a) _ refl refl refl (applied_said f a (says f h.0) (says a h.1))
+says (Ident x) h = says_alone (Ident x) (said (name x) ∷ []) (λ k. refl) (λ at rest. atom_name h.free)
+says PropSort h = says_alone PropSort (said (name (codes "Prop")) ∷ []) (λ k. refl) (λ at rest. atom_prop)
+says (TypeSort i) h = says_alone (TypeSort i) (said (name (codes "Type")) ∷ blank ∷ said (number i) ∷ []) (λ k. refl) (λ at rest. atom_type h)
+says _ h = absurd h
