@@ -17,7 +17,7 @@ use Rattle.lq_texts.proofs.PrintedPieces.{Want, any, app, alone, round_open, rou
 
 -- ---- the words of the grammar
 
-letters : (bs : List ℕ) → Rattle.std.specs.List.AllByRecursion (λ b. (b < 128) × (continues_name b ≡ true)) bs → Run continues_name bs
+pub letters : (bs : List ℕ) → Rattle.std.specs.List.AllByRecursion (λ b. (b < 128) × (continues_name b ≡ true)) bs → Run continues_name bs
 letters [] h = run_end
 letters (b ∷ bs) h =
     let d = decoded_ascii b bs h.0.0 in

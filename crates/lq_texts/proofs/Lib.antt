@@ -13,6 +13,9 @@ pub mod TokenWords
 pub mod PrintedPieces
 pub mod FinePieces
 pub mod ReadSurface
+pub mod PlainNames
+pub mod NumberedNames
+pub mod FreshNames
 mod Samples
 mod TermRows
 mod FaultRows

@@ -114,7 +114,7 @@ module _ (test : ℕ → Bool) where
 -- ---- what a name is made of
 
 -- the character that some bytes begin with, 0 where they begin with none
-abbrev char_of : Option ℕ → ℕ
+abbrev pub char_of : Option ℕ → ℕ
 char_of None = 0
 char_of (Some c) = c
 
