@@ -34,3 +34,4 @@ mod TacticRows
 mod PrimitiveRows
 mod FaultRows
 mod NestRows
+mod DocumentRows
