@@ -34,4 +34,3 @@ mod TacticRows
 mod PrimitiveRows
 mod FaultRows
 mod NestRows
-mod DocumentRows
