@@ -16,6 +16,7 @@ pub mod ReadSurface
 pub mod PlainNames
 pub mod NumberedNames
 pub mod FreshNames
+pub mod ReadsBackLaw
 mod Samples
 mod TermRows
 mod FaultRows
