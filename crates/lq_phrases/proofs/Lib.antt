@@ -1,0 +1,4 @@
+pub mod Loops
+pub mod TermLaws
+pub mod Failing
+pub mod Missing

@@ -1,5 +1,0 @@
-pub mod Loops
-pub mod TermLaws
-pub mod Failing
-pub mod Missing
-pub mod Quotes
