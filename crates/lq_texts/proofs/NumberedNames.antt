@@ -18,8 +18,9 @@ use Rattle.lq_grammar.proofs.Computing.{cutting}
 use Rattle.lq_trees.specs.Tree.{Name}
 use Rattle.lq_texts.proofs.Said.{IsFree}
 use Rattle.lq_texts.proofs.Fronts.{decoded_more, decoded_ascii}
-use Rattle.lq_texts.proofs.NameLexing.{Run, run_end, run_more, IsLexed, char_of, first_char}
-use Rattle.lq_texts.proofs.FinePieces.{letters}
+use Rattle.lq_texts.proofs.NameLexing.{IsLexed, char_of, first_char}
+use Rattle.lq_texts.proofs.Runs.{Run, run_end, run_more}
+use Rattle.lq_texts.proofs.GrammarWords.{letters}
 use Rattle.lq_texts.proofs.PrintedPieces.{IsWord}
 
 -- ---- digits

@@ -9,8 +9,10 @@ use Rattle.lq_grammar.specs.declared.token.TokenKind.{TokenKind}
 use Rattle.lq_grammar.specs.declared.token.TokenKind.TheVariants as kind
 use Rattle.lq_grammar.specs.Selectors.{closes}
 use Rattle.lq_sentences.specs.Words.{Word, Words, name, number, symbol}
-use Rattle.lq_texts.proofs.NameLexing.{IsEnd, Ends, FoundTo, IsLexed, name_found}
-use Rattle.lq_texts.proofs.SignLexing.{close_found, comma_found, colon_found, blank_found, open_found, becomes_found, maps_found, arrow_found, level_found}
+use Rattle.lq_texts.proofs.NameLexing.{FoundTo, IsLexed, name_found}
+use Rattle.lq_texts.proofs.Runs.{IsEnd, Ends}
+use Rattle.lq_texts.proofs.SignLexing.{close_found, comma_found, colon_found, blank_found, open_found, becomes_found, maps_found, arrow_found}
+use Rattle.lq_texts.proofs.DigitLexing.{level_found}
 
 -- a blank, or a word
 pub data Piece : Type 0 where

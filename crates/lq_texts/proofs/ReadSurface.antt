@@ -24,12 +24,15 @@ use Rattle.lq_sentences.proofs.PlaceLaws.{Rising}
 use Rattle.lq_texts.specs.Printing.{text}
 use Rattle.lq_texts.specs.ReadBack.{ReadsTo, reads_to, is_nested, is_long}
 use Rattle.lq_texts.proofs.Fronts.{Shows, shows_ascii, drop_behind}
-use Rattle.lq_texts.proofs.NameLexing.{FoundTo, end_blank}
+use Rattle.lq_texts.proofs.NameLexing.{FoundTo}
+use Rattle.lq_texts.proofs.Runs.{end_blank}
 use Rattle.lq_texts.proofs.Pieces.{Piece, blank, said, spelling, bytes, kind_of, tokens, placed, Fine, bytes_append, fine_append, word_found}
 use Rattle.lq_texts.proofs.Gathering.{stop_token, IsQuiet, AreQuiet, Gathers, gathered_pieces}
 use Rattle.lq_texts.proofs.TokenWords.{words_placed, words_append, word_stop, fine_long, above_placed, rising_placed, closed_by_stop, quiet_open}
-use Rattle.lq_texts.proofs.PrintedPieces.{any, pieces, IsSpoken, Says, says, split, text_pieces}
-use Rattle.lq_texts.proofs.FinePieces.{word_check, fine_pieces}
+use Rattle.lq_texts.proofs.PrintedPieces.{any, pieces, IsSpoken, text_pieces}
+use Rattle.lq_texts.proofs.PieceWords.{Says, says, split}
+use Rattle.lq_texts.proofs.FinePieces.{fine_pieces}
+use Rattle.lq_texts.proofs.GrammarWords.{word_check}
 use Rattle.lq_texts.proofs.CheckReading.{Reads, check_reads}
 
 -- what stands behind `Check` up to the `.`
