@@ -33,7 +33,8 @@ unfolding reading printing check_sentence
 again = refl
 
 abbrev other : Tree
-other = Let (codes "v") (Lam [] base (Rel 0)) (Prod [] base base) (App (App (Lam (codes "y") base base) (Prod (codes "u") base (Rel 0))) (Let [] base base (Var (codes "c"))))
+other = Let (codes "v") (Lam [] base (Rel 0)) (Prod [] base base)
+    (App (App (Lam (codes "y") base base) (Prod (codes "u") base (Rel 0))) (Let [] base base (Var (codes "c"))))
 
 again_other : read_again other ≡ as_written other
 unfolding reading printing check_sentence

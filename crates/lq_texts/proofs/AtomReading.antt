@@ -1,23 +1,21 @@
 -- Printed atoms are read again, and what a term begins with.
-use Rattle.std.proofs.Common.{◌≡◌, ℕ, zero, suc, ◌+◌, ◌-◌, ◌≤◌, Bool, true, false, List, [], ◌∷◌, ◌++◌, Ok, Err, refl, sym, ap, subst, ◌∙◌, inl, inr, arith, append-nil, append_assoc}
-use Rattle.std.specs.Prelude.{◌⊎◌, ◌&&◌, ◌||◌, not, nat_le, codes}
+use Rattle.std.proofs.Common.{◌≡◌, ℕ, suc, ◌+◌, ◌-◌, ◌≤◌, Bool, true, false, [], ◌∷◌, Ok, refl, sym, ap, ◌∙◌, inr, arith}
+use Rattle.std.specs.Prelude.{◌&&◌, ◌||◌, not, codes}
 use Rattle.std.proofs.lemmas.Bool.{le-leb}
 use Rattle.std.proofs.lemmas.Slice.Eq.{bytes_eq-Decides}
-use Rattle.lq_grammar.specs.declared.token.Symbol.TheVariants.{ColonEqual, FatArrow, Arrow as ArrowSign, OpenRound, CloseRound, Colon, Comma, Underscore, Question}
+use Rattle.lq_grammar.specs.declared.token.Symbol.TheVariants.{Arrow as ArrowSign, OpenRound, CloseRound}
 use Rattle.lq_grammar.specs.Selectors.{is_reserved}
 use Rattle.lq_trees.specs.Tree.{Name}
-use Rattle.lq_ast.specs.Syntax.{Surface, Forall, Fun, LetIn, Arrow, Applied, applied, Ident, PropSort, TypeSort, Written}
-use Rattle.lq_sentences.specs.Words.{Word, Words, name, number, quoted, symbol, bullet, is_name, is_sign, same_symbol, reads, text_of}
-use Rattle.lq_sentences.specs.Rules.{Rule, ◌>>=◌, ◌<$>◌, pure, choose, sees, too_nested, Read, and_then, read_word, read}
-use Rattle.lq_sentences.specs.Parts.{many, behind, expect}
-use Rattle.lq_sentences.specs.Terms.{Spot, top_level, begins_atom, begins_term, begins_argument, is_level, level_of, cast_behind, bracketed, behind_type, atom_at, atom, arguments, arrow_behind, arrow_term, quantified, let_term, term_in, no_term, levels, term}
+use Rattle.lq_ast.specs.Syntax.{Surface, Ident, PropSort, TypeSort}
+use Rattle.lq_sentences.specs.Words.{Word, Words, name, number, quoted, symbol, bullet, is_name, is_sign, same_symbol, reads}
+use Rattle.lq_sentences.specs.Rules.{sees, Read, and_then, read_word, read}
+use Rattle.lq_sentences.specs.Parts.{expect}
+use Rattle.lq_sentences.specs.Terms.{top_level, begins_atom, begins_term, begins_argument, is_level, level_of, cast_behind, term_in, levels, term}
 use Rattle.lq_sentences.specs.Patterns.{free_spot}
-use Rattle.lq_sentences.proofs.RuleLaws.{chosen_true, chosen_false}
-use Rattle.lq_sentences.proofs.LoopLaws.{many_again, many_done}
-use Rattle.lq_texts.proofs.Said.{bound_word, IsFree, IsFreeBinder, Said, said_forall, said_fun, said_let, said_arrow, said_spine, Spine, spine_applied, spine_atom, Atom, atom_name, atom_prop, atom_type, atom_brackets}
-use Rattle.lq_texts.proofs.GoodLaws.{Good, good_then, good_word, good_first, good_second, good_is, good_done}
-use Rattle.lq_texts.proofs.BinderReading.{behind_sign, quantified_good, let_good}
-use Rattle.lq_texts.proofs.AtomRows.{an_atom, Row, Cut, row_push, row_cut, Atoms, OneAtom, one_of, applied_more, applied_nil, atoms_one, atoms_more, looped, word_here, turn, loop_row, loop_cut, row_end, row_more, cut_here, cut_later}
+use Rattle.lq_sentences.proofs.RuleLaws.{chosen_true}
+use Rattle.lq_texts.proofs.Said.{IsFree}
+use Rattle.lq_texts.proofs.GoodLaws.{Good, good_then, good_word, good_done}
+use Rattle.lq_texts.proofs.AtomRows.{an_atom}
 
 -- ---- names that are not reserved
 
@@ -59,15 +57,20 @@ name_good m (b ∷ bs) p ws h = let o = own_word (b ∷ bs) h in let e = o.no_pr
 pub type_good : (m i p q : ℕ) (ws : Words) → i ≤ top_level → Good (an_atom m (name (codes "Type"), p) ((number i, q) ∷ ws)) (TypeSort i, ws)
 unfolding is_sign same_symbol reads
 type_good m i p q ws h =
-    good_then (read_word (m + 1) is_level ((number i, q) ∷ ws)) (λ w us. Ok (level_of w.0, us)) ((number i, q), ws) (TypeSort i, ws) (good_word (m + 1) is_level (number i, q) ws (le-leb i top_level h)) (good_done (TypeSort i, ws))
+    good_then (read_word (m + 1) is_level ((number i, q) ∷ ws)) (λ w us. Ok (level_of w.0, us)) ((number i, q), ws) (TypeSort i, ws)
+    (good_word (m + 1) is_level (number i, q) ws (le-leb i top_level h)) (good_done (TypeSort i, ws))
 
-pub brackets_good : (m : ℕ) (s : Surface) (p q : ℕ) (us ws : Words) → Good (read (term m free_spot) us) (s, (symbol CloseRound, q) ∷ ws) → Good (an_atom m (symbol OpenRound, p) us) (s, ws)
+pub brackets_good : (m : ℕ) (s : Surface) (p q : ℕ) (us ws : Words) → Good (read (term m free_spot) us) (s, (symbol CloseRound, q) ∷ ws) →
+    Good (an_atom m (symbol OpenRound, p) us) (s, ws)
 unfolding sees is_sign same_symbol
 brackets_good m s p q us ws g =
-    good_then (and_then (read (term m free_spot) us) (λ t vs. read (cast_behind m (term m) free_spot t) vs)) (λ t vs. and_then (read (expect (m + 1) CloseRound) vs) (λ u zs. Ok (t, zs))) (s, (symbol CloseRound, q) ∷ ws) (s, ws)
-    (good_then (read (term m free_spot) us) (λ t vs. read (cast_behind m (term m) free_spot t) vs) (s, (symbol CloseRound, q) ∷ ws) (s, (symbol CloseRound, q) ∷ ws) g (good_done _))
+    good_then (and_then (read (term m free_spot) us) (λ t vs. read (cast_behind m (term m) free_spot t) vs))
+    (λ t vs. and_then (read (expect (m + 1) CloseRound) vs) (λ u zs. Ok (t, zs))) (s, (symbol CloseRound, q) ∷ ws) (s, ws)
+    (good_then (read (term m free_spot) us) (λ t vs. read (cast_behind m (term m) free_spot t) vs) (s, (symbol CloseRound, q) ∷ ws)
+    (s, (symbol CloseRound, q) ∷ ws) g (good_done _))
     (good_then (read (expect (m + 1) CloseRound) ((symbol CloseRound, q) ∷ ws)) (λ u zs. Ok (s, zs)) (tt, ws) (s, ws)
-    (good_then (read_word (m + 1) (is_sign CloseRound) ((symbol CloseRound, q) ∷ ws)) (λ w vs. Ok (tt, vs)) ((symbol CloseRound, q), ws) (tt, ws) (good_word (m + 1) (is_sign CloseRound) (symbol CloseRound, q) ws refl) (good_done (tt, ws)))
+    (good_then (read_word (m + 1) (is_sign CloseRound) ((symbol CloseRound, q) ∷ ws)) (λ w vs. Ok (tt, vs)) ((symbol CloseRound, q), ws) (tt, ws)
+    (good_word (m + 1) (is_sign CloseRound) (symbol CloseRound, q) ws refl) (good_done (tt, ws)))
     (good_done (s, ws)))
 
 -- ---- terms

@@ -1,36 +1,27 @@
 -- `Check` and a printed term as an expression: a call.
-use Rattle.std.proofs.Common.{◌≡◌, ℕ, zero, suc, ◌+◌, ◌≤◌, ◌<◌, nat_lt, Bool, true, false, List, [], ◌∷◌, ◌++◌, Ok, Err, refl, sym, ap, subst, ◌∙◌, inl, inr, arith, ltb-true, ltb-false}
-use Rattle.std.specs.Prelude.{◌⊎◌, ◌||◌, None, codes}
-use Rattle.lq_grammar.specs.declared.token.Symbol.{Symbol}
-use Rattle.lq_grammar.specs.declared.token.Symbol.TheVariants.{Arrow as ArrowSign, Plus as PlusSign, Bars, Semicolon, Colon, Stop as StopSign}
-use Rattle.lq_trees.specs.Tree.{Name}
-use Rattle.lq_ast.specs.Syntax.{Surface, applied}
+use Rattle.std.proofs.Common.{◌≡◌, ℕ, suc, ◌+◌, Bool, true, false, List, [], ◌∷◌, ◌++◌, Ok, Err, refl, sym, ap, ◌∙◌, arith}
+use Rattle.std.specs.Prelude.{◌||◌, None, codes}
+use Rattle.lq_grammar.specs.declared.token.Symbol.TheVariants.{Plus as PlusSign, Bars, Semicolon, Colon, Stop as StopSign}
+use Rattle.lq_ast.specs.Syntax.{Surface}
 use Rattle.lq_ast.specs.Tactics.{Tac, Arg, args_of, stepped, term_arg}
 use Rattle.lq_ast.specs.Tactics as form
 use Rattle.lq_ast.specs.Syntax.{Ident}
-use Rattle.lq_ast.specs.Commands.{Statement, Sentence, command, check, run, stated}
+use Rattle.lq_ast.specs.Commands.{Statement, run}
 use Rattle.lq_sentences.specs.Words.{Word, Words, name, number, quoted, symbol, bullet, is_name, is_number, is_sign, same_symbol, reads}
-use Rattle.lq_sentences.specs.Rules.{Rule, ◌>>=◌, ◌>>◌, ◌<$>◌, pure, when, choose, loop, sees, Stop, unexpected, too_nested, ended, Read, and_then, read_word, read}
-use Rattle.lq_sentences.specs.Parts.{entry, many, expect}
-use Rattle.lq_sentences.specs.Terms.{begins_argument, atom_at, arrow_behind, term}
+use Rattle.lq_sentences.specs.Rules.{Rule, ◌>>=◌, ◌<$>◌, when, loop, sees, unexpected, too_nested, Read, and_then, read_word, read}
+use Rattle.lq_sentences.specs.Parts.{entry, many}
+use Rattle.lq_sentences.specs.Terms.{begins_argument, atom_at, term}
 use Rattle.lq_sentences.specs.Patterns.{free_spot}
-use Rattle.lq_sentences.specs.Levels.{Level, Here}
-use Rattle.lq_sentences.specs.Arguments.{behind_ltac, argument_at, begins_arg, call}
+use Rattle.lq_sentences.specs.Levels.{Here}
+use Rattle.lq_sentences.specs.Arguments.{behind_ltac, argument_at, begins_arg}
 use Rattle.lq_sentences.specs.Primitives.{primitive_words}
-use Rattle.lq_sentences.specs.Tactics.{form_words, prefix_words, operated, begins_pre, pre_at, step, tac_in, above, level}
-use Rattle.lq_sentences.specs.Sentences.{a_term, all_levels, command_words, a_command, selector, whole_command, whole_tac, whole_selected, whole_open, whole_mark, stop}
-use Rattle.lq_sentences.specs.Reading.{Whole, to_the_end, whole, further, either, second_of, whole_map, statement, stated_by, statements, sentence}
+use Rattle.lq_sentences.specs.Tactics.{form_words, prefix_words, operated, begins_pre, pre_at, step, tac_in, level}
+use Rattle.lq_sentences.specs.Sentences.{whole_tac, stop}
+use Rattle.lq_sentences.specs.Reading.{to_the_end, whole}
 use Rattle.lq_sentences.proofs.RuleLaws.{done_is, chosen_true, chosen_false}
 use Rattle.lq_sentences.proofs.LoopLaws.{many_again, many_done, loop_done}
-use Rattle.lq_sentences.proofs.FaultLaws.{Local, Stops, local}
-use Rattle.lq_sentences.proofs.PlaceLaws.{Above, Rising, above_in, same_head, same_tail}
-use Rattle.lq_texts.proofs.Said.{Said, said_forall, said_fun, said_let, said_arrow, said_spine, Spine}
-use Rattle.lq_texts.proofs.GoodLaws.{Good}
-use Rattle.lq_texts.proofs.TermReading.{term_reads, atoms_read}
-use Rattle.lq_texts.proofs.TermForms.{app_row, app_cut}
-use Rattle.lq_texts.proofs.AtomReading.{Halts, reads_is}
-use Rattle.lq_texts.proofs.AtomRows.{an_atom, Row, row_end, row_more, Cut, cut_here, cut_later, Atoms}
-use Rattle.lq_texts.proofs.NestedPlaces.{stops_at, nested_from, nested_behind, rising_behind, row_front, By, further_by, nested_wins}
+use Rattle.lq_texts.proofs.AtomReading.{reads_is}
+use Rattle.lq_texts.proofs.AtomRows.{an_atom, Row, row_end, row_more, Cut, cut_here, cut_later}
 
 -- ---- the words as an expression: a call of `Check`
 
@@ -45,7 +36,8 @@ module _ (m : ℕ) where
   unfolding read_word
   arg_word w ws b = let e : m + 1 ≡ suc m = omega arith in rw e (chosen_true (begins_arg [] w.0) _ _ b)
 
-  pub arg_turn : (found : List Arg) (w : Word × ℕ) (ws : Words) → begins_arg [] w.0 ≡ true → args found (w ∷ ws) ≡ and_then (read (argument_at here w) ws) (λ a us. args (found ++ a ∷ []) us)
+  pub arg_turn : (found : List Arg) (w : Word × ℕ) (ws : Words) → begins_arg [] w.0 ≡ true →
+      args found (w ∷ ws) ≡ and_then (read (argument_at here w) ws) (λ a us. args (found ++ a ∷ []) us)
   unfolding sees
   arg_turn found w ws b =
       many_again (m + 1) (begins_arg []) (argument_at here) found (w ∷ ws) b
@@ -92,16 +84,20 @@ module _ (m : ℕ) (v : Word) (p : ℕ) (ws : Words) (b : begins_argument [] v �
   -- an argument is an atom
   pub plain_arg : reads (codes "ltac") v ≡ false → read (argument_at (here m) (v, p)) ws ≡ and_then (an_atom m (v, p) ws) (λ a us. Ok (term_arg a, us))
   plain_arg f =
-      ap (λ r. read r ws) (when_false (is_number v) _ (when (reads (codes "ltac") v) (behind_ltac (here m)) (term_arg <$> atom_at m (term m) free_spot (v, p))) (not_number v b))
+      ap (λ r. read r ws) (when_false (is_number v) _
+      (when (reads (codes "ltac") v) (behind_ltac (here m)) (term_arg <$> atom_at m (term m) free_spot (v, p))) (not_number v b))
       ∙ ap (λ r. read r ws) (when_false (reads (codes "ltac") v) (behind_ltac (here m)) (term_arg <$> atom_at m (term m) free_spot (v, p)) f)
 
-  pub ltac_arg : reads (codes "ltac") v ≡ true → sees (is_sign Colon) ws ≡ false → read (argument_at (here m) (v, p)) ws ≡ Ok (term_arg (Ident (codes "ltac")), ws)
+  pub ltac_arg : reads (codes "ltac") v ≡ true → sees (is_sign Colon) ws ≡ false →
+      read (argument_at (here m) (v, p)) ws ≡ Ok (term_arg (Ident (codes "ltac")), ws)
   ltac_arg t c =
-      ap (λ r. read r ws) (when_false (is_number v) _ (when (reads (codes "ltac") v) (behind_ltac (here m)) (term_arg <$> atom_at m (term m) free_spot (v, p))) (not_number v b))
+      ap (λ r. read r ws) (when_false (is_number v) _
+      (when (reads (codes "ltac") v) (behind_ltac (here m)) (term_arg <$> atom_at m (term m) free_spot (v, p))) (not_number v b))
       ∙ ap (λ r. read r ws) (when_true (reads (codes "ltac") v) (behind_ltac (here m)) (term_arg <$> atom_at m (term m) free_spot (v, p)) t)
       ∙ chosen_false (sees (is_sign Colon) ws) _ _ c
 
-  pub arg_reads : (a : Surface) (us : Words) → an_atom m (v, p) ws ≡ Ok (a, us) → sees (is_sign Colon) us ≡ false → (c : Arg) × (read (argument_at (here m) (v, p)) ws ≡ Ok (c, us))
+  pub arg_reads : (a : Surface) (us : Words) → an_atom m (v, p) ws ≡ Ok (a, us) → sees (is_sign Colon) us ≡ false →
+      (c : Arg) × (read (argument_at (here m) (v, p)) ws ≡ Ok (c, us))
   arg_reads a us e c = by (reads (codes "ltac") v) refl
     where
       same : (x y : Surface) (xs ys : Words) → (let r : Read Surface = Ok (x, xs) in r) ≡ Ok (y, ys) → xs ≡ ys
@@ -129,7 +125,8 @@ row_colon m us rest as_ row_end c = c
 row_colon m us rest as_ (row_more {w = w} b e more) c = not_colon w.0 b
 
 -- atoms are arguments
-pub args_row : (m : ℕ) (us rest : Words) (as_ : List Surface) → Row m us as_ rest → sees (is_sign Colon) rest ≡ false → sees (begins_arg []) rest ≡ false → (found : List Arg) →
+pub args_row : (m : ℕ) (us rest : Words) (as_ : List Surface) → Row m us as_ rest → sees (is_sign Colon) rest ≡ false → sees (begins_arg []) rest ≡ false →
+    (found : List Arg) →
     (all : List Arg) × (args m found us ≡ Ok (all, rest))
 args_row m us rest as_ row_end c stops found = (found, many_done (m + 1) (begins_arg []) (argument_at (here m)) found us stops)
 args_row m us rest as_ (row_more {w = w} {ws = ws} {us = vs} {a = a} {as_ = bs} b e more) c stops found =
@@ -165,7 +162,8 @@ pub call_by : (m p : ℕ) (us : Words) → read (tac_in (here m) >>= (λ a. stop
 unfolding is_number is_sign entry prefix_words form_words primitive_words
 call_by m p us =
     ap (λ (x : Read (Word × ℕ)).
-    and_then (and_then (and_then x (λ w vs. read (pre_at (here m) w.0) vs)) (λ a vs. read (loop (m + 1) (λ b w. is_sign Semicolon w) (λ b w. stepped b <$> step (here m)) a) vs)) (λ a vs. read (stop (run None a)) vs))
+    and_then (and_then (and_then x (λ w vs. read (pre_at (here m) w.0) vs))
+    (λ a vs. read (loop (m + 1) (λ b w. is_sign Semicolon w) (λ b w. stepped b <$> step (here m)) a) vs)) (λ a vs. read (stop (run None a)) vs))
     (call_word m p us)
 
 pub tac_is : (m : ℕ) → (level (suc m)).tac [] ≡ tac_in (here m)
@@ -187,13 +185,17 @@ pub call_ends : (m : ℕ) (all : List Arg) (v : Word) (f : ℕ) (vs : Words) →
 unfolding sees read_word
 call_ends m all v f vs e =
     let a : Tac = form.call (codes "Check") (args_of all) in
-    ap (λ (x : Read Tac). and_then (and_then x (λ a vs. read (loop (m + 1) (λ b w. is_sign Semicolon w) (λ b w. stepped b <$> step (here m)) a) vs)) (λ a vs. read (stop (run None a)) vs))
+    ap (λ (x : Read Tac). and_then (and_then x (λ a vs. read (loop (m + 1) (λ b w. is_sign Semicolon w) (λ b w. stepped b <$> step (here m)) a) vs))
+    (λ a vs. read (stop (run None a)) vs))
     (chosen_false (is_sign PlusSign v) _ _ e.no_plus ∙ chosen_false (is_sign Bars v) _ _ e.no_bars)
-    ∙ ap (λ (x : Read Tac). and_then x (λ a vs. read (stop (run None a)) vs)) (loop_done (m + 1) (λ b w. is_sign Semicolon w) (λ b w. stepped b <$> step (here m)) a ((v, f) ∷ vs) e.no_semicolon)
+    ∙ ap (λ (x : Read Tac). and_then x (λ a vs. read (stop (run None a)) vs))
+    (loop_done (m + 1) (λ b w. is_sign Semicolon w) (λ b w. stepped b <$> step (here m)) a ((v, f) ∷ vs) e.no_semicolon)
     ∙ ap (λ (x : Read (Word × ℕ)). and_then x (λ w vs. Ok (run None a, vs))) (chosen_false (is_sign StopSign v) _ _ e.no_stop)
 
-pub tac_ends : (p : ℕ) (us : Words) (all : List Arg) (v : Word) (f : ℕ) (vs : Words) → args 200 [] us ≡ Ok (all, (v, f) ∷ vs) → Ends v → whole (whole_tac None) ((name (codes "Check"), p) ∷ us) ≡ Err (unexpected f)
+pub tac_ends : (p : ℕ) (us : Words) (all : List Arg) (v : Word) (f : ℕ) (vs : Words) → args 200 [] us ≡ Ok (all, (v, f) ∷ vs) → Ends v →
+    whole (whole_tac None) ((name (codes "Check"), p) ∷ us) ≡ Err (unexpected f)
 tac_ends p us all v f vs e ends = ap to_the_end (tac_by p us ∙ ap (behind_args 200) e ∙ call_ends 200 all v f vs ends)
 
-pub tac_nested : (p : ℕ) (us : Words) (q : ℕ) → args 200 [] us ≡ Err (too_nested q) → whole (whole_tac None) ((name (codes "Check"), p) ∷ us) ≡ Err (too_nested q)
+pub tac_nested : (p : ℕ) (us : Words) (q : ℕ) → args 200 [] us ≡ Err (too_nested q) →
+    whole (whole_tac None) ((name (codes "Check"), p) ∷ us) ≡ Err (too_nested q)
 tac_nested p us q e = ap to_the_end (tac_by p us ∙ ap (behind_args 200) e)

@@ -1,22 +1,16 @@
 -- A digit of a printed term is one token.
-use Rattle.std.proofs.Common.{◌≡◌, ℕ, zero, suc, ◌+◌, ◌-◌, ◌*◌, ◌^◌, ◌<◌, ◌≤◌, Bool, true, false, List, [], ◌∷◌, ◌++◌, drop, length, Option, Some, None, refl, sym, ap, ◌∙◌, subst, arith, inl, inr, if◌then◌else◌}
-use Rattle.std.specs.Prelude.{◌⊎◌, ◌&&◌, nat_lt, codes, decimal}
+use Rattle.std.proofs.Common.{◌≡◌, ℕ, zero, suc, ◌+◌, ◌-◌, ◌*◌, ◌^◌, ◌<◌, ◌≤◌, Bool, true, false, List, ◌∷◌, ◌++◌, drop, length, refl, ap, ◌∙◌, arith, inl, inr}
+use Rattle.std.specs.Prelude.{decimal}
 use Rattle.std.specs.Char.{is_ascii_digit}
-use Rattle.bstr.specs.Utf8.{decoded}
-use Rattle.lq_grammar.specs.declared.fault.LexFault.TheVariants.{BadChar, BadNumber}
-use Rattle.lq_grammar.specs.declared.token.Class.{Class}
 use Rattle.lq_grammar.specs.declared.token.Class.TheVariants as class
-use Rattle.lq_grammar.specs.declared.token.Symbol.{Symbol}
-use Rattle.lq_grammar.specs.declared.token.Symbol.TheVariants as sign
-use Rattle.lq_grammar.specs.declared.token.TokenKind.{TokenKind}
 use Rattle.lq_grammar.specs.declared.token.TokenKind.TheVariants as kind
-use Rattle.lq_grammar.specs.Cells.{Cells, over, beyond, letter, place, front, past, goes_on, view}
-use Rattle.lq_grammar.specs.Tokens.{Found, bound, word, crossing, flaw, token, continues_name, value_from, number_by, pair_of, single_of, is_clear, single_at, pair_at, symbol_at, class_of, found_at, found}
-use Rattle.lq_grammar.proofs.CellLaws.{place-view, view_over}
+use Rattle.lq_grammar.specs.Cells.{Cells, letter, place, front, past, goes_on, view}
+use Rattle.lq_grammar.specs.Tokens.{word, continues_name, value_from, number_by, class_of, found_at, found}
+use Rattle.lq_grammar.proofs.CellLaws.{place-view}
 use Rattle.lq_grammar.proofs.Computing.{cutting}
-use Rattle.lq_texts.proofs.Fronts.{decoded_ascii, Shows, shows_in, shows_ascii, shown_front, drop_next}
-use Rattle.lq_texts.proofs.NameLexing.{Stopped, FoundTo}
-use Rattle.lq_texts.proofs.Runs.{IsEnd, end_blank, end_close, end_comma, Ends, end_ascii}
+use Rattle.lq_texts.proofs.Fronts.{Shows, shows_ascii, shown_front, drop_next}
+use Rattle.lq_texts.proofs.NameLexing.{FoundTo}
+use Rattle.lq_texts.proofs.Runs.{IsEnd, end_blank, end_close, end_comma, end_ascii}
 use Rattle.lq_texts.proofs.Runs.{past_yes, past_stays}
 use Rattle.lq_texts.proofs.SignLexing.{beyond_bound}
 
@@ -37,7 +31,8 @@ digit_value c p cs e = step (is_ascii_digit c) e
     step true f = ap (λ m. value_from m cs) zero_more
     step false f = absurd cc
 
-pub number_ends : (p n : ℕ) (rest : Cells) → n < 10 → goes_on continues_name rest ≡ false → continues_name (front rest) ≡ false → number_by p n rest ≡ word (record { kind = kind.Number n; start = p; end = place rest }) rest
+pub number_ends : (p n : ℕ) (rest : Cells) → n < 10 → goes_on continues_name rest ≡ false → continues_name (front rest) ≡ false →
+    number_by p n rest ≡ word (record { kind = kind.Number n; start = p; end = place rest }) rest
 unfolding number_by
 number_ends p n rest h g f = let low : n < 2 ^ 128 = omega arith in rw (Rattle.std.proofs.lemmas.Bool.lt-leb (2 ^ 128) n low, g, f) refl
 
@@ -47,7 +42,8 @@ pub digit_by : (c n p : ℕ) (cs : Cells) → ((d : ℕ) → class_of false c d 
     found false (letter p c cs) ≡ word (record { kind = kind.Number n; start = p; end = place cs }) cs
 unfolding found
 digit_by c n p cs class_is digit value small v r g f =
-    ap (λ k. found_at k p c cs) (class_is (front cs)) ∙ as_number ∙ ap (λ m. number_by p m (past is_ascii_digit (letter p c cs))) value_is ∙ ap (number_by p n) rest_is ∙ whole
+    ap (λ k. found_at k p c cs) (class_is (front cs)) ∙ as_number ∙ ap (λ m. number_by p m (past is_ascii_digit (letter p c cs))) value_is
+    ∙ ap (number_by p n) rest_is ∙ whole
   where
     as_number : found_at class.Number p c cs ≡ number_by p (value_from 0 (letter p c cs)) (past is_ascii_digit (letter p c cs))
     as_number = number_at_is p c cs
@@ -77,7 +73,8 @@ value_stays n L text at c (inl s) e = ap (value_from n) s.1 ∙ step (is_ascii_d
     step false f = refl
 value_stays n L text at c (inr s) e = ap (value_from n) s.1
 
-pub digit_found : (L : ℕ) (text : List ℕ) (at c n d : ℕ) (more : List ℕ) → drop at text ≡ c ∷ d ∷ more → c < 128 → IsEnd d → ((d : ℕ) → class_of false c d ≡ class.Number) → is_ascii_digit c ≡ true → c - 48 ≡ n → n < 10 →
+pub digit_found : (L : ℕ) (text : List ℕ) (at c n d : ℕ) (more : List ℕ) → drop at text ≡ c ∷ d ∷ more → c < 128 → IsEnd d →
+    ((d : ℕ) → class_of false c d ≡ class.Number) → is_ascii_digit c ≡ true → c - 48 ≡ n → n < 10 →
     FoundTo L text at (at + 1) (kind.Number n)
 digit_found L text at c n d more e low h class_is digit value small = by (shows_ascii L text at c (d ∷ more) e low)
   where
@@ -96,12 +93,14 @@ digit_found L text at c n d more e low h class_is digit value small = by (shows_
         inl (
           v.0,
           ap (found false) v.1
-              ∙ digit_by c n at (view L text (at + 1)) class_is digit value small (value_stays n L text (at + 1) d next (digit_end d h).0) stays.0 named.1 (ap continues_name (shown_front L text (at + 1) d 1 next) ∙ (digit_end d h).1)
+              ∙ digit_by c n at (view L text (at + 1)) class_is digit value small (value_stays n L text (at + 1) d next (digit_end d h).0) stays.0 named.1
+              (ap continues_name (shown_front L text (at + 1) d 1 next) ∙ (digit_end d h).1)
               ∙ ap (λ q. word (record { kind = kind.Number n; start = at; end = q }) (view L text (at + 1))) (place-view L text (at + 1)),
         )
 
 -- a number of one digit that is a level of `Type`
-pub level_found : (L : ℕ) (text : List ℕ) (at n d : ℕ) (more : List ℕ) → n ≤ 3 → IsEnd d → drop at text ≡ decimal n ++ (d ∷ more) → FoundTo L text at (at + length (decimal n)) (kind.Number n)
+pub level_found : (L : ℕ) (text : List ℕ) (at n d : ℕ) (more : List ℕ) → n ≤ 3 → IsEnd d → drop at text ≡ decimal n ++ (d ∷ more) →
+    FoundTo L text at (at + length (decimal n)) (kind.Number n)
 unfolding cutting Rattle.std.specs.Fmt.digits
 level_found L text at zero d more h i e = digit_found L text at 48 0 d more e (omega arith) i (λ d. refl) refl refl (omega arith)
 level_found L text at (suc zero) d more h i e = digit_found L text at 49 1 d more e (omega arith) i (λ d. refl) refl refl (omega arith)

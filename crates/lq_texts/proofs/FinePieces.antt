@@ -1,21 +1,20 @@
 -- Each word of a printed term is one token.
-use Rattle.std.proofs.Common.{◌≡◌, ℕ, zero, suc, ◌+◌, ◌<◌, ◌≤◌, Bool, true, false, List, [], ◌∷◌, ◌++◌, length, drop, Some, refl, sym, ap, ◌∙◌, subst, arith, append_assoc, append-nil}
+use Rattle.std.proofs.Common.{◌≡◌, ℕ, ◌<◌, Bool, true, false, List, [], ◌∷◌, ◌++◌, sym, ap, ◌∙◌, subst, arith, append_assoc, append-nil}
 use Rattle.std.specs.Prelude.{codes}
-use Rattle.bstr.specs.Utf8.{decoded}
 use Rattle.lq_grammar.specs.declared.token.Class.TheVariants as class
-use Rattle.lq_grammar.specs.declared.token.Symbol.TheVariants.{ColonEqual, FatArrow, Arrow as ArrowSign, OpenRound, CloseRound, Colon, Comma, Underscore}
-use Rattle.lq_grammar.specs.Tokens.{continues_name, class_of}
+use Rattle.lq_grammar.specs.declared.token.Symbol.TheVariants.{ColonEqual, FatArrow, Arrow as ArrowSign, CloseRound, Colon, Comma}
+use Rattle.lq_grammar.specs.Tokens.{class_of}
 use Rattle.lq_grammar.proofs.Computing.{cutting}
 use Rattle.lq_trees.specs.Tree.{Name}
 use Rattle.lq_ast.specs.Syntax.{Surface, Forall, Fun, LetIn, Arrow, Applied, Ident, PropSort, TypeSort, Written}
 use Rattle.lq_sentences.specs.Words.{Word, name, number, symbol}
 use Rattle.lq_texts.proofs.Said.{bound_word}
 use Rattle.lq_texts.proofs.Fronts.{decoded_more, decoded_ascii}
-use Rattle.lq_texts.proofs.NameLexing.{IsLexed, first_char}
-use Rattle.lq_texts.proofs.Runs.{IsEnd, Ends, end_blank, end_close, end_comma, Run, run_end, run_more}
-use Rattle.lq_texts.proofs.Pieces.{Piece, blank, said, spelling, bytes, IsSayable, Opens, Fits, Fine, bytes_append, fine_append}
-use Rattle.lq_texts.proofs.PrintedPieces.{Want, any, app, alone, round_open, round_app, in_round, pieces, IsWord, IsBinder, IsSpoken}
-use Rattle.lq_texts.proofs.GrammarWords.{letters, word_check, word_forall, word_fun, word_let, word_in, word_prop, word_type}
+use Rattle.lq_texts.proofs.NameLexing.{IsLexed}
+use Rattle.lq_texts.proofs.Runs.{Ends, end_blank, end_close, end_comma}
+use Rattle.lq_texts.proofs.Pieces.{Piece, blank, said, bytes, IsSayable, Opens, Fits, Fine, bytes_append, fine_append}
+use Rattle.lq_texts.proofs.PrintedPieces.{Want, any, app, alone, round_open, round_app, in_round, pieces, IsBinder, IsSpoken}
+use Rattle.lq_texts.proofs.GrammarWords.{word_forall, word_fun, word_let, word_in, word_prop, word_type}
 
 -- ---- what a printed term begins with
 
@@ -104,7 +103,8 @@ behind_comma : (ps : List Piece) → IsFine ps → IsFine (said (symbol Comma) �
 behind_comma ps g tail e = (tt, end_blank, g tail e)
 
 -- a head, a binder and its type before other pieces
-fine_bound : (w : Word) (x : Name) (ps qs : List Piece) → IsSayable w → ((more : List ℕ) → Fits w (32 ∷ more)) → IsBinder x → IsFine ps → ((tail : List ℕ) → Ends (bytes qs ++ tail)) → IsFine qs →
+fine_bound : (w : Word) (x : Name) (ps qs : List Piece) → IsSayable w → ((more : List ℕ) → Fits w (32 ∷ more)) → IsBinder x → IsFine ps →
+    ((tail : List ℕ) → Ends (bytes qs ++ tail)) → IsFine qs →
     IsFine (said w ∷ blank ∷ said (bound_word x) ∷ blank ∷ said (symbol Colon) ∷ blank ∷ (ps ++ qs))
 fine_bound w x ps qs h f b p d q tail e =
     let v = fine_binder x (58 ∷ 32 ∷ (bytes (ps ++ qs) ++ tail)) b in
@@ -114,19 +114,25 @@ pub fine_pieces : (s : Surface) → IsSpoken s → (k : Want) → IsFine (pieces
 unfolding pieces
 fine_pieces (Forall x (Written A) t) h k =
     fine_round (round_open k) _ (opens_forall x A t)
-    (fine_bound (name (codes "forall")) x (pieces any A) (said (symbol Comma) ∷ blank ∷ pieces any t) word_forall (λ more. end_blank) h.0 (fine_pieces A h.1 any) (λ tail. end_comma) (behind_comma (pieces any t) (fine_pieces t h.2 any)))
+    (fine_bound (name (codes "forall")) x (pieces any A) (said (symbol Comma) ∷ blank ∷ pieces any t) word_forall (λ more. end_blank) h.0
+    (fine_pieces A h.1 any) (λ tail. end_comma) (behind_comma (pieces any t) (fine_pieces t h.2 any)))
 fine_pieces (Fun x (Written A) t) h k =
     fine_round (round_open k) _ (opens_fun x A t)
-    (fine_bound (name (codes "fun")) x (pieces any A) (blank ∷ said (symbol FatArrow) ∷ blank ∷ pieces any t) word_fun (λ more. end_blank) h.0 (fine_pieces A h.1 any) (λ tail. end_blank)
+    (fine_bound (name (codes "fun")) x (pieces any A) (blank ∷ said (symbol FatArrow) ∷ blank ∷ pieces any t) word_fun (λ more. end_blank) h.0
+    (fine_pieces A h.1 any) (λ tail. end_blank)
     (behind_sign (symbol FatArrow) (pieces any t) tt (λ more. end_blank) (fine_pieces t h.2 any)))
 fine_pieces (LetIn x (Written A) v t) h k =
     fine_round (round_open k) _ (opens_let x A v t)
-    (fine_bound (name (codes "let")) x (pieces any A) (blank ∷ said (symbol ColonEqual) ∷ blank ∷ (pieces any v ++ blank ∷ said (name (codes "in")) ∷ blank ∷ pieces any t)) word_let (λ more. end_blank) h.0 (fine_pieces A h.1 any) (λ tail. end_blank)
+    (fine_bound (name (codes "let")) x (pieces any A)
+    (blank ∷ said (symbol ColonEqual) ∷ blank ∷ (pieces any v ++ blank ∷ said (name (codes "in")) ∷ blank ∷ pieces any t)) word_let (λ more. end_blank)
+    h.0 (fine_pieces A h.1 any) (λ tail. end_blank)
     (behind_sign (symbol ColonEqual) (pieces any v ++ blank ∷ said (name (codes "in")) ∷ blank ∷ pieces any t) tt (λ more. end_blank)
-    (λ tail e. fine_append (pieces any v) (blank ∷ said (name (codes "in")) ∷ blank ∷ pieces any t) tail (fine_pieces v h.2 any _ end_blank) (behind_sign (name (codes "in")) (pieces any t) word_in (λ more. end_blank) (fine_pieces t h.3 any) tail e))))
+    (λ tail e. fine_append (pieces any v) (blank ∷ said (name (codes "in")) ∷ blank ∷ pieces any t) tail (fine_pieces v h.2 any _ end_blank)
+    (behind_sign (name (codes "in")) (pieces any t) word_in (λ more. end_blank) (fine_pieces t h.3 any) tail e))))
 fine_pieces (Arrow a b) h k =
     fine_round (round_open k) _ (λ tail. opens_front (pieces app a) _ tail (opens_pieces a h.0 app))
-    (λ tail e. fine_append (pieces app a) (blank ∷ said (symbol ArrowSign) ∷ blank ∷ pieces any b) tail (fine_pieces a h.0 app _ end_blank) (behind_sign (symbol ArrowSign) (pieces any b) tt (λ more. end_blank) (fine_pieces b h.1 any) tail e))
+    (λ tail e. fine_append (pieces app a) (blank ∷ said (symbol ArrowSign) ∷ blank ∷ pieces any b) tail (fine_pieces a h.0 app _ end_blank)
+    (behind_sign (symbol ArrowSign) (pieces any b) tt (λ more. end_blank) (fine_pieces b h.1 any) tail e))
 fine_pieces (Applied f a) h k =
     fine_round (round_app k) _ (λ tail. opens_front (pieces app f) _ tail (opens_pieces f h.0 app))
     (λ tail e. fine_append (pieces app f) (blank ∷ pieces alone a) tail (fine_pieces f h.0 app _ end_blank) (fine_pieces a h.1 alone tail e))

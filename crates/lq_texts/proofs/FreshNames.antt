@@ -1,5 +1,5 @@
 -- A name that is made fresh among few names has a short number behind it.
-use Rattle.std.proofs.Common.{◌≡◌, ℕ, zero, suc, ◌+◌, ◌^◌, ◌<◌, ◌≤◌, Bool, true, false, List, [], ◌∷◌, ◌++◌, length, refl, sym, ap, ◌∙◌, subst, arith, inl, inr, length-append}
+use Rattle.std.proofs.Common.{◌≡◌, ℕ, zero, suc, ◌+◌, ◌^◌, ◌<◌, ◌≤◌, Bool, true, false, List, [], ◌∷◌, ◌++◌, length, refl, sym, ap, ◌∙◌, arith, inl, inr}
 use Rattle.std.specs.Prelude.{◌⊎◌, ◌||◌, decimal, nat_lt}
 use Rattle.std.proofs.lemmas.Bool.{ltb-true, ltb-false}
 use Rattle.std.proofs.lemmas.Fmt.{decimal_injective}
@@ -64,7 +64,8 @@ numbered x i = x ++ decimal i
 
 one_number : (x y : Name) (i j : ℕ) → i < 2 ^ 64 → j < 2 ^ 64 → same_name y (numbered x i) ≡ true → same_name y (numbered x j) ≡ true → i ≡ j
 one_number x y i j h k e f =
-    decimal_injective i j h k (append_cancel_left x (decimal i) (decimal j) (sym ((bytes_eq-Decides y (numbered x i)).0 e) ∙ (bytes_eq-Decides y (numbered x j)).0 f))
+    decimal_injective i j h k
+    (append_cancel_left x (decimal i) (decimal j) (sym ((bytes_eq-Decides y (numbered x i)).0 e) ∙ (bytes_eq-Decides y (numbered x j)).0 f))
 
 -- a list has no more numbered names than names
 few_listed : (x : Name) (ns : List Name) (n : ℕ) → n ≤ 2 ^ 64 → hits (λ i. is_listed ns (numbered x i)) n ≤ length ns

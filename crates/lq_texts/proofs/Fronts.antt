@@ -1,15 +1,16 @@
 -- The characters at the front of a text.
 use Rattle.std.proofs.Common.{◌≡◌, ℕ, zero, suc, ◌+◌, ◌-◌, ◌<◌, ◌≤◌, Bool, true, false, List, [], ◌∷◌, ◌++◌, drop, length, length-append, Option, Some, None, refl, sym, ap, ◌∙◌, subst, arith, inl, inr, append_assoc}
 use Rattle.std.specs.Prelude.{◌⊎◌, nat_lt, slice_index}
-use Rattle.std.proofs.lemmas.List.{drop-drop, drop-append-le}
+use Rattle.std.proofs.lemmas.List.{drop-drop}
 use Rattle.bstr.specs.Utf8.{decoded, decoded_by}
-use Rattle.bstr.proofs.lemmas.PieceLemmas.{piece-bounds, by-shape, value-1, value-6, value-9, value-12}
-use Rattle.lq_grammar.specs.Cells.{Cells, letter, beyond, front, past, view, goes_on}
+use Rattle.bstr.proofs.lemmas.PieceLemmas.{by-shape, value-1, value-6, value-9, value-12}
+use Rattle.lq_grammar.specs.Cells.{letter, beyond, front, view}
 use Rattle.lq_grammar.proofs.CellLaws.{view_letter, view_beyond}
 
 -- ---- a character that decodes stays where bytes follow
 
-longer : (n m b c d e c' d' e' x : ℕ) → n ≤ m → (1 < n → c' ≡ c) → (2 < n → d' ≡ d) → (3 < n → e' ≡ e) → (decoded_by n b c d e).char ≡ Some x → decoded_by m b c' d' e' ≡ decoded_by n b c d e
+longer : (n m b c d e c' d' e' x : ℕ) → n ≤ m → (1 < n → c' ≡ c) → (2 < n → d' ≡ d) → (3 < n → e' ≡ e) → (decoded_by n b c d e).char ≡ Some x →
+    decoded_by m b c' d' e' ≡ decoded_by n b c d e
 longer n m b c d e c' d' e' x h hc hd he is =
     by-shape n b c d e
     (λ s. absurd (none (ap (λ r. r.char) s.1)))
@@ -21,10 +22,12 @@ longer n m b c d e c' d' e' x h hc hd he is =
     (λ s. let c_is = hc (omega (arith, s.0)) in rw c_is (value-6 m b c d' e' (omega (arith, s.0), s.1, s.2, s.3)) ∙ sym s.4)
     (λ s. absurd (none (ap (λ r. r.char) s.5)))
     (λ s. absurd (none (ap (λ r. r.char) s.5)))
-    (λ s. let c_is = hc (omega (arith, s.0)) in let d_is = hd (omega (arith, s.0)) in rw (c_is, d_is) (value-9 m b c d e' (omega (arith, s.0), s.1, s.2, s.3, s.4)) ∙ sym s.5)
+    (λ s. let c_is = hc (omega (arith, s.0)) in let d_is = hd (omega (arith, s.0)) in
+    rw (c_is, d_is) (value-9 m b c d e' (omega (arith, s.0), s.1, s.2, s.3, s.4)) ∙ sym s.5)
     (λ s. absurd (none (ap (λ r. r.char) s.6)))
     (λ s. absurd (none (ap (λ r. r.char) s.6)))
-    (λ s. let c_is = hc (omega (arith, s.0)) in let d_is = hd (omega (arith, s.0)) in let e_is = he (omega (arith, s.0)) in rw (c_is, d_is, e_is) (value-12 m b c d e (omega (arith, s.0), s.1, s.2, s.3, s.4, s.5)) ∙ sym s.6) where
+    (λ s. let c_is = hc (omega (arith, s.0)) in let d_is = hd (omega (arith, s.0)) in let e_is = he (omega (arith, s.0)) in
+    rw (c_is, d_is, e_is) (value-12 m b c d e (omega (arith, s.0), s.1, s.2, s.3, s.4, s.5)) ∙ sym s.6) where
       none : (decoded_by n b c d e).char ≡ None → ⊥
       none f = let g = sym is ∙ f in cc
 
@@ -36,8 +39,10 @@ index_append (suc k) (b ∷ bs) more h = index_append k bs more (omega arith)
 pub decoded_more : (bs more : List ℕ) (x : ℕ) → (decoded bs).char ≡ Some x → decoded (bs ++ more) ≡ decoded bs
 decoded_more [] more x is = absurd cc
 decoded_more (b ∷ bs) more x is =
-    longer (length (b ∷ bs)) (length (b ∷ bs ++ more)) b (slice_index (b ∷ bs) 1) (slice_index (b ∷ bs) 2) (slice_index (b ∷ bs) 3) (slice_index (b ∷ bs ++ more) 1) (slice_index (b ∷ bs ++ more) 2) (slice_index (b ∷ bs ++ more) 3) x
-    (omega (arith, length-append (b ∷ bs) more)) (λ h. index_append 1 (b ∷ bs) more h) (λ h. index_append 2 (b ∷ bs) more h) (λ h. index_append 3 (b ∷ bs) more h) is
+    longer (length (b ∷ bs)) (length (b ∷ bs ++ more)) b (slice_index (b ∷ bs) 1) (slice_index (b ∷ bs) 2) (slice_index (b ∷ bs) 3)
+    (slice_index (b ∷ bs ++ more) 1) (slice_index (b ∷ bs ++ more) 2) (slice_index (b ∷ bs ++ more) 3) x
+    (omega (arith, length-append (b ∷ bs) more)) (λ h. index_append 1 (b ∷ bs) more h) (λ h. index_append 2 (b ∷ bs) more h)
+    (λ h. index_append 3 (b ∷ bs) more h) is
 
 -- a byte below 128 is a character by itself
 pub decoded_ascii : (b : ℕ) (bs : List ℕ) → b < 128 → ((decoded (b ∷ bs)).char ≡ Some b) × ((decoded (b ∷ bs)).size ≡ 1)
@@ -64,7 +69,8 @@ shown_front L text at c n (inl s) = ap front s.1
 shown_front L text at c n (inr s) = ap front s.1
 
 -- the bytes from a place on begin with those, and more follow
-pub shows_in : (L : ℕ) (text : List ℕ) (at : ℕ) (bs more : List ℕ) (c : ℕ) → drop at text ≡ bs ++ more → (decoded bs).char ≡ Some c → Shows L text at c (decoded bs).size
+pub shows_in : (L : ℕ) (text : List ℕ) (at : ℕ) (bs more : List ℕ) (c : ℕ) → drop at text ≡ bs ++ more → (decoded bs).char ≡ Some c →
+    Shows L text at c (decoded bs).size
 shows_in L text at bs more c e f =
     let g = ap decoded e ∙ decoded_more bs more c f in
     shows_by L text at c (decoded bs).size (ap (λ r. r.char) g ∙ f) (ap (λ r. r.size) g)

@@ -1,5 +1,5 @@
 -- An answer, or a word that is nested too deep.
-use Rattle.std.proofs.Common.{◌≡◌, ℕ, zero, suc, Bool, true, false, [], ◌∷◌, Ok, Err, refl, ap, ◌∙◌, inl, inr}
+use Rattle.std.proofs.Common.{◌≡◌, ℕ, zero, suc, Bool, true, false, ◌∷◌, Ok, Err, refl, ap, ◌∙◌, inl, inr}
 use Rattle.std.specs.Prelude.{◌⊎◌}
 use Rattle.lq_sentences.specs.Words.{Word, Words}
 use Rattle.lq_sentences.specs.Rules.{Rule, choose, too_nested, Read, and_then, read_word, sees, read}
@@ -19,11 +19,13 @@ unfolding read_word
 good_word zero test w rest e = inr (w.1, chosen_true (test w.0) _ _ e)
 good_word (suc n) test w rest e = inl (chosen_true (test w.0) _ _ e)
 
-pub good_first : {A : Type 0} (test : Word → Bool) (p q : Rule A) (ws : Words) (y : A × Words) → sees test ws ≡ true → Good (read p ws) y → Good (read (choose test p q) ws) y
+pub good_first : {A : Type 0} (test : Word → Bool) (p q : Rule A) (ws : Words) (y : A × Words) → sees test ws ≡ true → Good (read p ws) y →
+    Good (read (choose test p q) ws) y
 good_first test p q ws y e (inl g) = inl (chosen_true (sees test ws) _ _ e ∙ g)
 good_first test p q ws y e (inr g) = inr (g.0, chosen_true (sees test ws) _ _ e ∙ g.1)
 
-pub good_second : {A : Type 0} (test : Word → Bool) (p q : Rule A) (ws : Words) (y : A × Words) → sees test ws ≡ false → Good (read q ws) y → Good (read (choose test p q) ws) y
+pub good_second : {A : Type 0} (test : Word → Bool) (p q : Rule A) (ws : Words) (y : A × Words) → sees test ws ≡ false → Good (read q ws) y →
+    Good (read (choose test p q) ws) y
 good_second test p q ws y e (inl g) = inl (chosen_false (sees test ws) _ _ e ∙ g)
 good_second test p q ws y e (inr g) = inr (g.0, chosen_false (sees test ws) _ _ e ∙ g.1)
 

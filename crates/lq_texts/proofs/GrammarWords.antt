@@ -1,20 +1,11 @@
 -- The words of the grammar of terms are one token each.
-use Rattle.std.proofs.Common.{◌≡◌, ℕ, zero, suc, ◌+◌, ◌<◌, ◌≤◌, Bool, true, false, List, [], ◌∷◌, ◌++◌, length, drop, Some, refl, sym, ap, ◌∙◌, subst, arith, append_assoc, append-nil}
+use Rattle.std.proofs.Common.{◌≡◌, ℕ, ◌<◌, true, List, [], ◌∷◌, drop, refl, sym, subst, arith}
 use Rattle.std.specs.Prelude.{codes}
-use Rattle.bstr.specs.Utf8.{decoded}
-use Rattle.lq_grammar.specs.declared.token.Class.TheVariants as class
-use Rattle.lq_grammar.specs.declared.token.Symbol.TheVariants.{ColonEqual, FatArrow, Arrow as ArrowSign, OpenRound, CloseRound, Colon, Comma, Underscore}
-use Rattle.lq_grammar.specs.Tokens.{continues_name, class_of}
+use Rattle.lq_grammar.specs.Tokens.{continues_name}
 use Rattle.lq_grammar.proofs.Computing.{cutting}
-use Rattle.lq_trees.specs.Tree.{Name}
-use Rattle.lq_ast.specs.Syntax.{Surface, Forall, Fun, LetIn, Arrow, Applied, Ident, PropSort, TypeSort, Written}
-use Rattle.lq_sentences.specs.Words.{Word, name, number, symbol}
-use Rattle.lq_texts.proofs.Said.{bound_word}
-use Rattle.lq_texts.proofs.Fronts.{decoded_more, decoded_ascii}
-use Rattle.lq_texts.proofs.NameLexing.{IsLexed, first_char}
-use Rattle.lq_texts.proofs.Runs.{IsEnd, Ends, end_blank, end_close, end_comma, Run, run_end, run_more}
-use Rattle.lq_texts.proofs.Pieces.{Piece, blank, said, spelling, bytes, IsSayable, Opens, Fits, Fine, bytes_append, fine_append}
-use Rattle.lq_texts.proofs.PrintedPieces.{Want, any, app, alone, round_open, round_app, in_round, pieces, IsWord, IsBinder, IsSpoken}
+use Rattle.lq_texts.proofs.Fronts.{decoded_ascii}
+use Rattle.lq_texts.proofs.NameLexing.{IsLexed}
+use Rattle.lq_texts.proofs.Runs.{Run, run_end, run_more}
 
 -- ---- the words of the grammar
 
@@ -26,19 +17,35 @@ letters (b ∷ bs) h =
 
 pub word_check : IsLexed (codes "Check")
 unfolding cutting
-word_check = record { initial = 67; begins = refl; named = refl; others = letters (codes "heck") ((omega arith, refl), ((omega arith, refl), ((omega arith, refl), ((omega arith, refl), tt)))); short = omega arith }
+word_check = record {
+  initial = 67;
+  begins = refl;
+  named = refl;
+  others = letters (codes "heck")
+      ((omega arith, refl), ((omega arith, refl), ((omega arith, refl), ((omega arith, refl), tt))));
+  short = omega arith;
+}
 
 pub word_forall : IsLexed (codes "forall")
 unfolding cutting
-word_forall = record { initial = 102; begins = refl; named = refl; others = letters (codes "orall") ((omega arith, refl), ((omega arith, refl), ((omega arith, refl), ((omega arith, refl), ((omega arith, refl), tt))))); short = omega arith }
+word_forall = record {
+  initial = 102;
+  begins = refl;
+  named = refl;
+  others = letters (codes "orall")
+      ((omega arith, refl), ((omega arith, refl), ((omega arith, refl), ((omega arith, refl), ((omega arith, refl), tt)))));
+  short = omega arith;
+}
 
 pub word_fun : IsLexed (codes "fun")
 unfolding cutting
-word_fun = record { initial = 102; begins = refl; named = refl; others = letters (codes "un") ((omega arith, refl), ((omega arith, refl), tt)); short = omega arith }
+word_fun =
+    record { initial = 102; begins = refl; named = refl; others = letters (codes "un") ((omega arith, refl), ((omega arith, refl), tt)); short = omega arith }
 
 pub word_let : IsLexed (codes "let")
 unfolding cutting
-word_let = record { initial = 108; begins = refl; named = refl; others = letters (codes "et") ((omega arith, refl), ((omega arith, refl), tt)); short = omega arith }
+word_let =
+    record { initial = 108; begins = refl; named = refl; others = letters (codes "et") ((omega arith, refl), ((omega arith, refl), tt)); short = omega arith }
 
 pub word_in : IsLexed (codes "in")
 unfolding cutting
@@ -46,8 +53,22 @@ word_in = record { initial = 105; begins = refl; named = refl; others = letters 
 
 pub word_prop : IsLexed (codes "Prop")
 unfolding cutting
-word_prop = record { initial = 80; begins = refl; named = refl; others = letters (codes "rop") ((omega arith, refl), ((omega arith, refl), ((omega arith, refl), tt))); short = omega arith }
+word_prop = record {
+  initial = 80;
+  begins = refl;
+  named = refl;
+  others = letters (codes "rop")
+      ((omega arith, refl), ((omega arith, refl), ((omega arith, refl), tt)));
+  short = omega arith;
+}
 
 pub word_type : IsLexed (codes "Type")
 unfolding cutting
-word_type = record { initial = 84; begins = refl; named = refl; others = letters (codes "ype") ((omega arith, refl), ((omega arith, refl), ((omega arith, refl), tt))); short = omega arith }
+word_type = record {
+  initial = 84;
+  begins = refl;
+  named = refl;
+  others = letters (codes "ype")
+      ((omega arith, refl), ((omega arith, refl), ((omega arith, refl), tt)));
+  short = omega arith;
+}

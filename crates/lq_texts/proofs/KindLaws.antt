@@ -1,21 +1,14 @@
 -- Only a name is a token of that kind.
-use Rattle.std.proofs.Common.{◌≡◌, ℕ, zero, suc, ◌+◌, ◌-◌, ◌*◌, ◌^◌, ◌<◌, ◌≤◌, min, Bool, true, false, List, [], ◌∷◌, ◌++◌, drop, length, Option, Some, None, refl, sym, ap, ◌∙◌, subst, arith, if◌then◌else◌, inl, inr, length-append, append_assoc, append-nil}
-use Rattle.std.specs.Prelude.{◌⊎◌, nat_lt, nat_le, ◌==◌, ◌&&◌, ◌||◌, codes, decimal}
-use Rattle.bstr.specs.Utf8.{decoded}
-use Rattle.bstr.proofs.lemmas.PieceLemmas.{piece-bounds}
-use Rattle.lq_grammar.specs.declared.fault.LexFault.TheVariants.{BadChar, BadNumber, OpenComment, OpenString}
+use Rattle.std.proofs.Common.{◌≡◌, ℕ, zero, suc, ◌-◌, ◌^◌, min, Bool, true, false, Option, Some, None, refl, if◌then◌else◌, inl, inr}
+use Rattle.std.specs.Prelude.{◌⊎◌, nat_le, ◌==◌}
+use Rattle.lq_grammar.specs.declared.fault.LexFault.TheVariants.{BadChar, BadNumber}
 use Rattle.lq_grammar.specs.declared.token.Class.{Class}
 use Rattle.lq_grammar.specs.declared.token.Class.TheVariants as class
 use Rattle.lq_grammar.specs.declared.token.Symbol.{Symbol}
-use Rattle.lq_grammar.specs.declared.token.Token.{Token}
 use Rattle.lq_grammar.specs.declared.token.TokenKind.{TokenKind}
 use Rattle.lq_grammar.specs.declared.token.TokenKind.TheVariants as kind
-use Rattle.lq_grammar.specs.Cells.{Cells, over, broken, beyond, letter, cells_from, cells, place, front, past, goes_on}
-use Rattle.lq_grammar.specs.Tokens.{Found, nothing, bound, space, word, crossing, flaw, token, continues_name, comment_from, comment_at, open_behind, half_behind, string_from, longest_name, name_at, number_by, bullet_at, pair_of, single_of, is_clear, single_at, pair_at, symbol_at, class_of, found_at, found}
-use Rattle.lq_trees.specs.Tree.{Name}
-use Rattle.lq_texts.specs.ReadBack.{IsPlainName}
-use Rattle.lq_texts.proofs.NameLexing.{IsLexed, char_of, first_char}
-use Rattle.lq_texts.proofs.Runs.{Run, run_end, run_more}
+use Rattle.lq_grammar.specs.Cells.{Cells, over, broken, beyond, letter, place, front, past, goes_on}
+use Rattle.lq_grammar.specs.Tokens.{Found, word, crossing, flaw, token, continues_name, comment_from, comment_at, open_behind, half_behind, string_from, number_by, bullet_at, pair_of, single_of, is_clear, single_at, pair_at, symbol_at, found_at}
 
 -- ---- only a name is a token of that kind
 
@@ -50,7 +43,8 @@ string_not start true (beyond p c) = step (c == 34)
     step false = λ h. h
 string_not start true (letter p c cs) = step (c == 34) (string_not start false cs)
   where
-    step : (b : Bool) → NotNamed (string_from start false cs) → NotNamed (elim b as (λ _. Found) [ true ↦ string_from start false cs | false ↦ token kind.Text start (letter p c cs) ])
+    step : (b : Bool) → NotNamed (string_from start false cs) →
+        NotNamed (elim b as (λ _. Found) [ true ↦ string_from start false cs | false ↦ token kind.Text start (letter p c cs) ])
     step true k = k
     step false k = λ h. h
 
@@ -58,7 +52,8 @@ pub number_not : (p n : ℕ) (rest : Cells) → NotNamed (number_by p n rest)
 unfolding number_by
 number_not p n rest = step (nat_le (2 ^ 128) n) (goes_on continues_name rest) (continues_name (front rest))
   where
-    step : (a b d : Bool) → NotNamed (if a then flaw (BadNumber p) else if b then crossing (kind.Number n) else if d then flaw (BadNumber p) else token (kind.Number n) p rest)
+    step : (a b d : Bool) →
+        NotNamed (if a then flaw (BadNumber p) else if b then crossing (kind.Number n) else if d then flaw (BadNumber p) else token (kind.Number n) p rest)
     step true b d = tt
     step false true d = tt
     step false false true = tt
@@ -68,7 +63,8 @@ pub bullet_not : (p c : ℕ) (cs : Cells) → NotNamed (bullet_at p c cs)
 unfolding bullet_at
 bullet_not p c cs = step (goes_on (λ d. d == c) (past (λ d. d == c) cs))
   where
-    step : (b : Bool) → NotNamed (if b then crossing (kind.Bullet c 5) else token (kind.Bullet c (min (place (past (λ d. d == c) cs) - p) 5)) p (past (λ d. d == c) cs))
+    step : (b : Bool) →
+        NotNamed (if b then crossing (kind.Bullet c 5) else token (kind.Bullet c (min (place (past (λ d. d == c) cs) - p) 5)) p (past (λ d. d == c) cs))
     step true = tt
     step false = λ h. h
 
@@ -83,7 +79,8 @@ pub symbol_not : (p c : ℕ) (cs : Cells) → NotNamed (symbol_at p c cs)
 unfolding symbol_at single_at
 symbol_not p c cs = step (pair_of c (front cs)) (single_of (is_clear cs) c)
   where
-    step : (o w : Option Symbol) → NotNamed (elim o as (λ _. Found) [ Some s ↦ pair_at s p cs | None ↦ elim w as (λ _. Found) [ Some s ↦ token (kind.Symbol s) p cs | None ↦ flaw (BadChar p) ] ])
+    step : (o w : Option Symbol) → NotNamed
+        (elim o as (λ _. Found) [ Some s ↦ pair_at s p cs | None ↦ elim w as (λ _. Found) [ Some s ↦ token (kind.Symbol s) p cs | None ↦ flaw (BadChar p) ] ])
     step (Some s) w = pair_not s p cs
     step None (Some s) = λ h. h
     step None None = tt

@@ -1,35 +1,14 @@
 -- Where a word is nested too deep, and of two reasons the further one.
 use Rattle.std.proofs.Common.{◌≡◌, ℕ, zero, suc, ◌+◌, ◌≤◌, ◌<◌, nat_lt, Bool, true, false, List, [], ◌∷◌, ◌++◌, Ok, Err, refl, sym, ap, subst, ◌∙◌, inl, inr, arith, ltb-true, ltb-false}
-use Rattle.std.specs.Prelude.{◌⊎◌, ◌||◌, None, codes}
-use Rattle.lq_grammar.specs.declared.token.Symbol.{Symbol}
-use Rattle.lq_grammar.specs.declared.token.Symbol.TheVariants.{Arrow as ArrowSign, Plus as PlusSign, Bars, Semicolon, Colon, Stop as StopSign}
-use Rattle.lq_trees.specs.Tree.{Name}
-use Rattle.lq_ast.specs.Syntax.{Surface, applied}
-use Rattle.lq_ast.specs.Tactics.{Tac, Arg, args_of, stepped, term_arg}
-use Rattle.lq_ast.specs.Tactics as form
-use Rattle.lq_ast.specs.Syntax.{Ident}
-use Rattle.lq_ast.specs.Commands.{Statement, Sentence, command, check, run, stated}
-use Rattle.lq_sentences.specs.Words.{Word, Words, name, number, quoted, symbol, bullet, is_name, is_number, is_sign, same_symbol, reads}
-use Rattle.lq_sentences.specs.Rules.{Rule, ◌>>=◌, ◌>>◌, ◌<$>◌, pure, when, choose, loop, sees, Stop, unexpected, too_nested, ended, Read, and_then, read_word, read}
-use Rattle.lq_sentences.specs.Parts.{entry, many, expect}
-use Rattle.lq_sentences.specs.Terms.{begins_argument, atom_at, arrow_behind, term}
+use Rattle.lq_ast.specs.Syntax.{Surface}
+use Rattle.lq_sentences.specs.Words.{Word, Words}
+use Rattle.lq_sentences.specs.Rules.{Rule, Stop, unexpected, too_nested, ended, read}
+use Rattle.lq_sentences.specs.Terms.{atom_at, term}
 use Rattle.lq_sentences.specs.Patterns.{free_spot}
-use Rattle.lq_sentences.specs.Levels.{Level, Here}
-use Rattle.lq_sentences.specs.Arguments.{behind_ltac, argument_at, begins_arg, call}
-use Rattle.lq_sentences.specs.Primitives.{primitive_words}
-use Rattle.lq_sentences.specs.Tactics.{form_words, prefix_words, operated, begins_pre, pre_at, step, tac_in, above, level}
-use Rattle.lq_sentences.specs.Sentences.{a_term, all_levels, command_words, a_command, selector, whole_command, whole_tac, whole_selected, whole_open, whole_mark, stop}
-use Rattle.lq_sentences.specs.Reading.{Whole, to_the_end, whole, further, either, second_of, whole_map, statement, stated_by, statements, sentence}
-use Rattle.lq_sentences.proofs.RuleLaws.{done_is, chosen_true, chosen_false}
-use Rattle.lq_sentences.proofs.LoopLaws.{many_again, many_done, loop_done}
+use Rattle.lq_sentences.specs.Reading.{further}
 use Rattle.lq_sentences.proofs.FaultLaws.{Local, Stops, local}
 use Rattle.lq_sentences.proofs.PlaceLaws.{Above, Rising, above_in, same_head, same_tail}
-use Rattle.lq_texts.proofs.Said.{Said, said_forall, said_fun, said_let, said_arrow, said_spine, Spine}
-use Rattle.lq_texts.proofs.GoodLaws.{Good}
-use Rattle.lq_texts.proofs.TermReading.{term_reads, atoms_read}
-use Rattle.lq_texts.proofs.TermForms.{app_row, app_cut}
-use Rattle.lq_texts.proofs.AtomReading.{Halts, reads_is}
-use Rattle.lq_texts.proofs.AtomRows.{an_atom, Row, row_end, row_more, Cut, cut_here, cut_later, Atoms}
+use Rattle.lq_texts.proofs.AtomRows.{an_atom, Row, row_end, row_more}
 
 -- ---- where a word is nested too deep
 

@@ -1,6 +1,6 @@
 -- A plain name with a number behind it is a word too.
-use Rattle.std.proofs.Common.{◌≡◌, ℕ, zero, suc, ◌+◌, ◌^◌, ◌<◌, ◌≤◌, ◌%◌, ◌/◌, Bool, true, false, List, [], ◌∷◌, ◌++◌, drop, length, Some, None, refl, sym, ap, ◌∙◌, subst, arith, if◌then◌else◌, length-append, append-nil}
-use Rattle.std.specs.Prelude.{◌&&◌, ◌||◌, ◌==◌, bytes_eq, codes, decimal}
+use Rattle.std.proofs.Common.{◌≡◌, ℕ, zero, suc, ◌+◌, ◌^◌, ◌<◌, ◌≤◌, ◌%◌, Bool, true, false, List, [], ◌∷◌, ◌++◌, drop, length, Some, refl, sym, ap, ◌∙◌, subst, arith, length-append}
+use Rattle.std.specs.Prelude.{◌&&◌, ◌||◌, ◌==◌, bytes_eq, decimal}
 use Rattle.std.specs.List.{AllByRecursion, list_any}
 use Rattle.std.specs.Char.{is_ascii_digit}
 use Rattle.std.proofs.lemmas.Bool.{ne_eqb}
@@ -9,10 +9,9 @@ use Rattle.std.proofs.lemmas.List.{drop-append-le}
 use Rattle.std.proofs.lemmas.Slice.Eq.{bytes_eq-Decides}
 use Rattle.bstr.specs.Utf8.{decoded}
 use Rattle.bstr.proofs.lemmas.PieceLemmas.{piece-bounds}
-use Rattle.lq_grammar.specs.declared.token.Class.{Class}
 use Rattle.lq_grammar.specs.declared.token.Class.TheVariants as class
 use Rattle.lq_grammar.specs.Selectors.{reserved, is_reserved}
-use Rattle.lq_grammar.specs.Tokens.{is_blank, opens_comment, continues_name, starts_name, class_of}
+use Rattle.lq_grammar.specs.Tokens.{is_blank, continues_name, starts_name, class_of}
 use Rattle.lq_grammar.proofs.Turns.{class_by, class_of-by}
 use Rattle.lq_grammar.proofs.Computing.{cutting}
 use Rattle.lq_trees.specs.Tree.{Name}
@@ -70,14 +69,16 @@ run_append xs ys (run_more {c = c} f g r) s =
     let size_is = ap (λ d. d.size) more in
     let within = size_low xs c f in
     run_more (ap (λ d. d.char) more ∙ f) g
-    (subst (λ m. Run continues_name (drop m (xs ++ ys))) (sym size_is) (subst (Run continues_name) (sym (drop-append-le n xs ys within)) (run_append (drop n xs) ys r s)))
+    (subst (λ m. Run continues_name (drop m (xs ++ ys))) (sym size_is)
+    (subst (Run continues_name) (sym (drop-append-le n xs ys within)) (run_append (drop n xs) ys r s)))
   where
     size_low : (bs : List ℕ) (c : ℕ) → (decoded bs).char ≡ Some c → (decoded bs).size ≤ length bs
     size_low [] c e = absurd cc
     size_low (b ∷ bs) c e = (piece-bounds (b ∷ bs) (omega arith)).2
 
 -- what begins a name before nothing begins one before a character that goes on with names
-named_more : (blank comment bullet text digit low starts : Bool) → class_by blank comment bullet text digit low false starts ≡ class.Name → class_by blank comment bullet text digit low true starts ≡ class.Name
+named_more : (blank comment bullet text digit low starts : Bool) → class_by blank comment bullet text digit low false starts ≡ class.Name →
+    class_by blank comment bullet text digit low true starts ≡ class.Name
 unfolding class_by
 named_more true comment bullet text digit low starts h = absurd cc
 named_more false true bullet text digit low starts h = absurd cc
@@ -98,9 +99,11 @@ named_before c d h e =
     ∙ ap (λ b. class_by (is_blank c) (c == 40 && b) false (c == 34) (is_ascii_digit c) (c == 95) (continues_name d) (starts_name c)) star
     ∙ ap (λ b. class_by (is_blank c) (c == 40 && false) false (c == 34) (is_ascii_digit c) (c == 95) b (starts_name c)) (one_digit d h).1
     ∙ named_more (is_blank c) (c == 40 && false) false (c == 34) (is_ascii_digit c) (c == 95) (starts_name c)
-    (ap (λ b. class_by (is_blank c) (c == 40 && false) false (c == 34) (is_ascii_digit c) (c == 95) b (starts_name c)) (sym zero_none) ∙ sym (class_of-by false c 0) ∙ e)
+    (ap (λ b. class_by (is_blank c) (c == 40 && false) false (c == 34) (is_ascii_digit c) (c == 95) b (starts_name c)) (sym zero_none)
+    ∙ sym (class_of-by false c 0) ∙ e)
 
-named_digits : (c : ℕ) (r ds : List ℕ) → Run continues_name r → AreDigits ds → 0 < length ds → class_of false c (first_char r) ≡ class.Name → class_of false c (first_char (r ++ ds)) ≡ class.Name
+named_digits : (c : ℕ) (r ds : List ℕ) → Run continues_name r → AreDigits ds → 0 < length ds → class_of false c (first_char r) ≡ class.Name →
+    class_of false c (first_char (r ++ ds)) ≡ class.Name
 named_digits c [] [] run_end d h e = absurd (omega arith)
 named_digits c [] (b ∷ ds) run_end d h e = ap (class_of false c) (ap char_of (decoded_ascii b ds (one_digit b d.0).0).0) ∙ named_before c b d.0 e
 named_digits c r ds (run_more {c = x} f g rest) d h e = ap (class_of false c) (ap char_of (ap (λ y. y.char) (decoded_more r ds x f))) ∙ e
@@ -152,15 +155,30 @@ none_equal w (r ∷ rs) low h = by (bytes_eq r w) refl (none_equal w rs low h.1)
 
 pub not_reserved : (w : List ℕ) → last_byte w ≤ 57 → is_reserved w ≡ false
 not_reserved w low =
-    none_equal w reserved low
-    (omega arith, (omega arith, (omega arith, (omega arith, (omega arith, (omega arith, (omega arith, (omega arith, (omega arith, (omega arith, (omega arith, (omega arith, (omega arith, tt)))))))))))))
+    none_equal w reserved low (
+      omega arith,
+      (
+        omega arith,
+        (
+          omega arith,
+          (
+            omega arith,
+            (omega arith, (omega arith, (omega arith, (omega arith, (omega arith, (omega arith, (omega arith, (omega arith, (omega arith, tt))))))))),
+          ),
+        ),
+      ),
+    )
 
 pub numbered_word : (x : Name) (k : ℕ) → IsLexed x → length x ≤ 200 → k < 2 ^ 64 → IsWord (x ++ decimal k)
 numbered_word x k l short low =
     let d = decimal_digits k low in
     let some = decimal_nonempty k low in
     let few = length-decimal-le 20 k (omega arith) (omega arith) low in
-    record { lexed = lexed_digits x (decimal k) l d some (omega (arith, few, short)); free = free x l (last_append x (decimal k) some) (last_digit (decimal k) d) }
+    record {
+      lexed = lexed_digits x (decimal k) l d some (omega (arith, few, short));
+      free = free x l (last_append x (decimal k) some)
+          (last_digit (decimal k) d);
+    }
   where
     free : (x : Name) → IsLexed x → last_byte (x ++ decimal k) ≡ last_byte (decimal k) → last_byte (decimal k) ≤ 57 → IsFree (x ++ decimal k)
     free [] l e low = let b = l.begins in absurd cc

@@ -94,11 +94,13 @@ Fine (said w ∷ ps) tail = IsSayable w × Fits w (bytes ps ++ tail) × Fine ps 
 pub bytes_append : (ps qs : List Piece) → bytes (ps ++ qs) ≡ bytes ps ++ bytes qs
 bytes_append [] qs = refl
 bytes_append (blank ∷ ps) qs = ap (λ bs. 32 ∷ bs) (bytes_append ps qs)
-bytes_append (said w ∷ ps) qs = ap (λ bs. spelling w ++ bs) (bytes_append ps qs) ∙ Rattle.std.proofs.Common.sym (append_assoc (spelling w) (bytes ps) (bytes qs))
+bytes_append (said w ∷ ps) qs =
+    ap (λ bs. spelling w ++ bs) (bytes_append ps qs) ∙ Rattle.std.proofs.Common.sym (append_assoc (spelling w) (bytes ps) (bytes qs))
 
 pub placed_append : (at : ℕ) (ps qs : List Piece) → placed at (ps ++ qs) ≡ placed at ps ++ placed (at + length (bytes ps)) qs
 placed_append at [] qs = let e : at ≡ at + 0 = omega arith in ap (λ p. placed p qs) e
-placed_append at (blank ∷ ps) qs = let e : at + 1 + length (bytes ps) ≡ at + suc (length (bytes ps)) = omega arith in placed_append (at + 1) ps qs ∙ ap (λ p. placed (at + 1) ps ++ placed p qs) e
+placed_append at (blank ∷ ps) qs = let e : at + 1 + length (bytes ps) ≡ at + suc (length (bytes ps)) =
+    omega arith in placed_append (at + 1) ps qs ∙ ap (λ p. placed (at + 1) ps ++ placed p qs) e
 placed_append at (said w ∷ ps) qs =
     let e : at + length (spelling w) + length (bytes ps) ≡ at + length (spelling w ++ bytes ps) = omega (arith, length-append (spelling w) (bytes ps)) in
     ap (λ ws. (w, at) ∷ ws) (placed_append (at + length (spelling w)) ps qs ∙ ap (λ p. placed (at + length (spelling w)) ps ++ placed p qs) e)
@@ -110,7 +112,8 @@ pub fine_append : (ps qs : List Piece) (tail : List ℕ) → Fine ps (bytes qs +
 fine_append [] qs tail h k = k
 fine_append (blank ∷ ps) qs tail h k = fine_append ps qs tail h k
 fine_append (said w ∷ ps) qs tail h k =
-    let e = Rattle.std.proofs.Common.sym (append_assoc (bytes ps) (bytes qs) tail) ∙ ap (λ bs. bs ++ tail) (Rattle.std.proofs.Common.sym (bytes_append ps qs)) in
+    let e =
+    Rattle.std.proofs.Common.sym (append_assoc (bytes ps) (bytes qs) tail) ∙ ap (λ bs. bs ++ tail) (Rattle.std.proofs.Common.sym (bytes_append ps qs)) in
     (h.0, fits_is w (bytes ps ++ (bytes qs ++ tail)) (bytes (ps ++ qs) ++ tail) e h.1, fine_append ps qs tail h.2 k)
 
 -- ---- each word is found
@@ -133,7 +136,8 @@ ends_is : (more : List ℕ) → Ends more → (d : ℕ) × (rest : List ℕ) × 
 ends_is [] h = absurd h
 ends_is (d ∷ ds) h = (d, ds, refl, h)
 
-sign_found : (L : ℕ) (text : List ℕ) (at : ℕ) (s : Symbol) (more : List ℕ) → IsUsed s → Fits (symbol s) more → drop at text ≡ sign_text s ++ more → FoundTo L text at (at + length (sign_text s)) (kind.Symbol s)
+sign_found : (L : ℕ) (text : List ℕ) (at : ℕ) (s : Symbol) (more : List ℕ) → IsUsed s → Fits (symbol s) more → drop at text ≡ sign_text s ++ more →
+    FoundTo L text at (at + length (sign_text s)) (kind.Symbol s)
 sign_found L text at sign.OpenRound more h f e = open_found L text at f.0 more e f.1 f.2
 sign_found L text at sign.ColonEqual more h f e = becomes_found L text at more e
 sign_found L text at sign.FatArrow more h f e = maps_found L text at more e
@@ -144,7 +148,8 @@ sign_found L text at sign.Comma more h f e = let x = ends_is more f in comma_fou
 sign_found L text at sign.Underscore more h f e = let x = ends_is more f in blank_found L text at x.0 x.1 x.3 (e ∙ ap (λ m. 95 ∷ m) x.2)
 sign_found L text at _ more h f e = absurd h
 
-pub word_found : (L : ℕ) (text : List ℕ) (at : ℕ) (w : Word) (more : List ℕ) → IsSayable w → Fits w more → drop at text ≡ spelling w ++ more → FoundTo L text at (at + length (spelling w)) (kind_of w)
+pub word_found : (L : ℕ) (text : List ℕ) (at : ℕ) (w : Word) (more : List ℕ) → IsSayable w → Fits w more → drop at text ≡ spelling w ++ more →
+    FoundTo L text at (at + length (spelling w)) (kind_of w)
 word_found L text at (name x) more h f e = let y = ends_is more f in name_found L text at y.0 x y.1 y.3 h (e ∙ ap (λ m. x ++ m) y.2)
 word_found L text at (number n) more h f e = let y = ends_is more f in level_found L text at n y.0 y.1 h y.3 (e ∙ ap (λ m. decimal n ++ m) y.2)
 word_found L text at (symbol s) more h f e = sign_found L text at s more h f e

@@ -1,22 +1,19 @@
 -- A plain name is one token, alone and before other text; so is one with a number behind it.
-use Rattle.std.proofs.Common.{◌≡◌, ℕ, zero, suc, ◌+◌, ◌-◌, ◌*◌, ◌^◌, ◌<◌, ◌≤◌, min, Bool, true, false, List, [], ◌∷◌, ◌++◌, drop, length, Option, Some, None, refl, sym, ap, ◌∙◌, subst, arith, if◌then◌else◌, inl, inr, length-append, append_assoc, append-nil}
-use Rattle.std.specs.Prelude.{◌⊎◌, nat_lt, nat_le, ◌==◌, ◌&&◌, ◌||◌, codes, decimal}
+use Rattle.std.proofs.Common.{◌≡◌, ℕ, zero, suc, ◌+◌, ◌-◌, ◌≤◌, Bool, true, false, List, [], ◌∷◌, drop, length, Option, Some, None, refl, sym, ap, ◌∙◌, subst, arith, if◌then◌else◌, inl, inr}
+use Rattle.std.specs.Prelude.{nat_lt}
 use Rattle.bstr.specs.Utf8.{decoded}
 use Rattle.bstr.proofs.lemmas.PieceLemmas.{piece-bounds}
-use Rattle.lq_grammar.specs.declared.fault.LexFault.TheVariants.{BadChar, BadNumber, OpenComment, OpenString}
+use Rattle.lq_grammar.specs.declared.fault.LexFault.TheVariants.{BadChar}
 use Rattle.lq_grammar.specs.declared.token.Class.{Class}
 use Rattle.lq_grammar.specs.declared.token.Class.TheVariants as class
-use Rattle.lq_grammar.specs.declared.token.Symbol.{Symbol}
 use Rattle.lq_grammar.specs.declared.token.Token.{Token}
-use Rattle.lq_grammar.specs.declared.token.TokenKind.{TokenKind}
 use Rattle.lq_grammar.specs.declared.token.TokenKind.TheVariants as kind
-use Rattle.lq_grammar.specs.Cells.{Cells, over, broken, beyond, letter, cells_from, cells, place, front, past, goes_on}
-use Rattle.lq_grammar.specs.Tokens.{Found, nothing, bound, space, word, crossing, flaw, token, continues_name, comment_from, comment_at, open_behind, half_behind, string_from, longest_name, name_at, number_by, bullet_at, pair_of, single_of, is_clear, single_at, pair_at, symbol_at, class_of, found_at, found}
+use Rattle.lq_grammar.specs.Cells.{Cells, over, broken, letter, cells_from, cells, place, front, past, goes_on}
+use Rattle.lq_grammar.specs.Tokens.{Found, nothing, word, crossing, flaw, token, continues_name, longest_name, name_at, class_of, found_at, found}
 use Rattle.lq_trees.specs.Tree.{Name}
-use Rattle.lq_texts.specs.ReadBack.{IsPlainName}
 use Rattle.lq_texts.proofs.NameLexing.{IsLexed, char_of, first_char}
 use Rattle.lq_texts.proofs.Runs.{Run, run_end, run_more}
-use Rattle.lq_texts.proofs.KindLaws.{IsNameKind, NotNamed, comment_not, string_not, number_not, bullet_not, pair_not, symbol_not, class_not}
+use Rattle.lq_texts.proofs.KindLaws.{IsNameKind, NotNamed, class_not}
 
 -- ---- the characters of a name
 
@@ -25,7 +22,8 @@ name_rest : (p : ℕ) (cs rest : Cells) (t : Token) → name_at p cs ≡ word t 
 unfolding name_at
 name_rest p cs rest t e = step (nat_lt longest_name (place (past continues_name cs) - p)) (goes_on continues_name (past continues_name cs)) e
   where
-    step : (a b : Bool) → (if a then flaw (BadChar p) else if b then crossing kind.Name else token kind.Name p (past continues_name cs)) ≡ word t rest → past continues_name cs ≡ rest
+    step : (a b : Bool) → (if a then flaw (BadChar p) else if b then crossing kind.Name else token kind.Name p (past continues_name cs)) ≡ word t rest →
+        past continues_name cs ≡ rest
     step true b f = absurd cc
     step false true f = absurd cc
     step false false f = cc
@@ -42,11 +40,13 @@ run_from test (suc k) at [] n e = run_end
 run_from test (suc k) at (b ∷ bs) n e = run_from test k (at + 1) bs n e
 run_from test zero at (b ∷ bs) n e = step (decoded (b ∷ bs)).char refl e (run_from test ((decoded (b ∷ bs)).size - 1) (at + 1) bs n)
   where
-    passed : (c : ℕ) (cs : Cells) (t : Bool) → test c ≡ t → elim t as (λ _. Cells) [ true ↦ past test cs | false ↦ letter at c cs ] ≡ over n → (test c ≡ true) × (past test cs ≡ over n)
+    passed : (c : ℕ) (cs : Cells) (t : Bool) → test c ≡ t → elim t as (λ _. Cells) [ true ↦ past test cs | false ↦ letter at c cs ] ≡ over n →
+        (test c ≡ true) × (past test cs ≡ over n)
     passed c cs true f g = (f, g)
     passed c cs false f g = absurd cc
 
-    step : (o : Option ℕ) → (decoded (b ∷ bs)).char ≡ o → past test (elim o as (λ _. Cells) [ None ↦ broken at | Some c ↦ letter at c (cells_from ((decoded (b ∷ bs)).size - 1) (at + 1) bs) ]) ≡ over n →
+    step : (o : Option ℕ) → (decoded (b ∷ bs)).char ≡ o →
+        past test (elim o as (λ _. Cells) [ None ↦ broken at | Some c ↦ letter at c (cells_from ((decoded (b ∷ bs)).size - 1) (at + 1) bs) ]) ≡ over n →
         (past test (cells_from ((decoded (b ∷ bs)).size - 1) (at + 1) bs) ≡ over n → Run test (drop ((decoded (b ∷ bs)).size - 1) bs)) → Run test (b ∷ bs)
     step None f g others = absurd cc
     step (Some c) f g others =
@@ -60,7 +60,8 @@ front_cells (suc k) at [] = refl
 front_cells (suc k) at (b ∷ bs) = front_cells k (at + 1) bs
 front_cells zero at (b ∷ bs) = step (decoded (b ∷ bs)).char
   where
-    step : (o : Option ℕ) → front (elim o as (λ _. Cells) [ None ↦ broken at | Some c ↦ letter at c (cells_from ((decoded (b ∷ bs)).size - 1) (at + 1) bs) ]) ≡ char_of o
+    step : (o : Option ℕ) →
+        front (elim o as (λ _. Cells) [ None ↦ broken at | Some c ↦ letter at c (cells_from ((decoded (b ∷ bs)).size - 1) (at + 1) bs) ]) ≡ char_of o
     step None = refl
     step (Some c) = refl
 
@@ -115,7 +116,8 @@ lexed_of (b ∷ bs) e h = step (decoded (b ∷ bs)).char refl
     apart : flaw (BadChar 0) ≡ word (named_token (length (b ∷ bs))) (over (length (b ∷ bs))) → ⊥
     apart f = cc
 
-    at_class : (c : ℕ) → (decoded (b ∷ bs)).char ≡ Some c → found_at (class_of false c (front rest)) 0 c rest ≡ word (named_token (length (b ∷ bs))) (over (length (b ∷ bs)))
+    at_class : (c : ℕ) → (decoded (b ∷ bs)).char ≡ Some c →
+        found_at (class_of false c (front rest)) 0 c rest ≡ word (named_token (length (b ∷ bs))) (over (length (b ∷ bs)))
     at_class c f = sym (ap (found false) (first_of b c bs f) ∙ at_letter 0 c rest) ∙ e
 
     is_class : (c : ℕ) (k : Class) → found_at k 0 c rest ≡ word (named_token (length (b ∷ bs))) (over (length (b ∷ bs))) → k ≡ class.Name
@@ -130,6 +132,7 @@ lexed_of (b ∷ bs) e h = step (decoded (b ∷ bs)).char refl
           initial = c;
           begins = f;
           named = ap (class_of false c) (ap first_char (sym behind) ∙ sym (front_cells (n - 1) 1 bs)) ∙ k;
-          others = subst (Run continues_name) behind (run_from continues_name (n - 1) 1 bs (length (b ∷ bs)) (name_rest 0 rest (over (length (b ∷ bs))) (named_token (length (b ∷ bs))) g));
+          others = subst (Run continues_name) behind
+              (run_from continues_name (n - 1) 1 bs (length (b ∷ bs)) (name_rest 0 rest (over (length (b ∷ bs))) (named_token (length (b ∷ bs))) g));
           short = h;
         }

@@ -1,23 +1,22 @@
 -- `Check` and a printed surface are one sentence that reads to it.
-use Rattle.std.proofs.Common.{◌≡◌, ℕ, zero, suc, ◌+◌, ◌<◌, ◌≤◌, Bool, true, false, not, List, [], ◌∷◌, ◌++◌, drop, length, Some, Result, Ok, Err, refl, sym, ap, ◌∙◌, subst, arith, inl, inr, append_assoc, length-append}
-use Rattle.std.specs.Prelude.{◌⊎◌, ◌&&◌, nat_le, codes}
+use Rattle.std.proofs.Common.{◌≡◌, ℕ, suc, ◌+◌, ◌<◌, ◌≤◌, true, false, not, List, [], ◌∷◌, ◌++◌, drop, length, Result, Err, refl, sym, ap, ◌∙◌, subst, arith, inl, inr, append_assoc, length-append}
+use Rattle.std.specs.Prelude.{◌&&◌, nat_le, codes}
 use Rattle.std.proofs.lemmas.Bool.{le-leb}
-use Rattle.lq_grammar.specs.declared.fault.LexFault.{LexFault}
 use Rattle.lq_grammar.specs.declared.token.Symbol.TheVariants as sign
 use Rattle.lq_grammar.specs.declared.token.Token.{Token}
 use Rattle.lq_grammar.specs.declared.token.TokenKind.TheVariants as kind
-use Rattle.lq_grammar.specs.Cells.{Cells, letter, cells, place, view, window}
-use Rattle.lq_grammar.specs.Tokens.{Found, word, found}
+use Rattle.lq_grammar.specs.Cells.{Cells, letter, cells, view}
+use Rattle.lq_grammar.specs.Tokens.{word, found}
 use Rattle.lq_grammar.specs.Selectors.{closes}
-use Rattle.lq_grammar.specs.Cutting.{Next, sentence, longest, end_of, so_far, gathered, is_space, begun, next}
+use Rattle.lq_grammar.specs.Cutting.{longest, gathered, is_space, next}
 use Rattle.lq_grammar.proofs.CellLaws.{view_own, view_whole}
 use Rattle.lq_grammar.proofs.Turns.{after_found, gathered-suc, begun_by, begun-suc}
 use Rattle.lq_grammar.proofs.Computing.{cutting}
 use Rattle.lq_ast.specs.Syntax.{Surface}
 use Rattle.lq_ast.specs.Commands.{Sentence, stated, command, check}
 use Rattle.lq_sentences.specs.declared.fault.SyntaxFault.{SyntaxFault}
-use Rattle.lq_sentences.specs.declared.fault.SyntaxFault.TheVariants.{TooNested, SentenceTooLong}
-use Rattle.lq_sentences.specs.Words.{Word, Words, name, symbol, words}
+use Rattle.lq_sentences.specs.declared.fault.SyntaxFault.TheVariants.{SentenceTooLong}
+use Rattle.lq_sentences.specs.Words.{Words, name, symbol, words}
 use Rattle.lq_sentences.specs.Reading.{with_faults, is_closed_behind, is_too_long, start_of, read_sentence}
 use Rattle.lq_sentences.specs.Reading as reading
 use Rattle.lq_sentences.proofs.PlaceLaws.{Rising}
@@ -26,11 +25,11 @@ use Rattle.lq_texts.specs.ReadBack.{ReadsTo, reads_to, is_nested, is_long}
 use Rattle.lq_texts.proofs.Fronts.{Shows, shows_ascii, drop_behind}
 use Rattle.lq_texts.proofs.NameLexing.{FoundTo}
 use Rattle.lq_texts.proofs.Runs.{end_blank}
-use Rattle.lq_texts.proofs.Pieces.{Piece, blank, said, spelling, bytes, kind_of, tokens, placed, Fine, bytes_append, fine_append, word_found}
-use Rattle.lq_texts.proofs.Gathering.{stop_token, IsQuiet, AreQuiet, Gathers, gathered_pieces}
+use Rattle.lq_texts.proofs.Pieces.{Piece, blank, said, bytes, tokens, placed, Fine, bytes_append, fine_append, word_found}
+use Rattle.lq_texts.proofs.Gathering.{stop_token, AreQuiet, Gathers, gathered_pieces}
 use Rattle.lq_texts.proofs.TokenWords.{words_placed, words_append, word_stop, fine_long, above_placed, rising_placed, closed_by_stop, quiet_open}
 use Rattle.lq_texts.proofs.PrintedPieces.{any, pieces, IsSpoken, text_pieces}
-use Rattle.lq_texts.proofs.PieceWords.{Says, says, split}
+use Rattle.lq_texts.proofs.PieceWords.{says, split}
 use Rattle.lq_texts.proofs.FinePieces.{fine_pieces}
 use Rattle.lq_texts.proofs.GrammarWords.{word_check}
 use Rattle.lq_texts.proofs.CheckReading.{Reads, check_reads}
@@ -48,7 +47,8 @@ written s = codes "Check " ++ text 0 s ++ codes " ."
 spoken_is : (s : Surface) → IsSpoken s → written s ≡ spoken s
 spoken_is s h =
     ap (λ bs. codes "Check " ++ bs ++ codes " .") (text_pieces s h any)
-    ∙ ap (λ bs. codes "Check " ++ bs) (sym (append_assoc (bytes (pieces any s)) (32 ∷ []) (46 ∷ [])) ∙ ap (λ bs. bs ++ (46 ∷ [])) (sym (bytes_append (pieces any s) (blank ∷ []))))
+    ∙ ap (λ bs. codes "Check " ++ bs)
+    (sym (append_assoc (bytes (pieces any s)) (32 ∷ []) (46 ∷ [])) ∙ ap (λ bs. bs ++ (46 ∷ [])) (sym (bytes_append (pieces any s) (blank ∷ []))))
 
 module _ (s : Surface) (h : IsSpoken s) where
   all_fine : Fine (behind_check s) (46 ∷ [])
@@ -85,7 +85,8 @@ module _ (s : Surface) (h : IsSpoken s) where
   begins =
       let here = sym (view_whole (length (spoken s)) (spoken s) 0 (omega arith) (omega arith)) ∙ first_shown (length (spoken s)) long_enough in
       begun-suc (length (spoken s)) (spoken s) (cells 0 (spoken s))
-      ∙ ap (λ b. begun_by (length (spoken s)) (spoken s) (cells 0 (spoken s)) b (found false (cells 0 (spoken s)))) (ap is_space here ∙ no_space (view (length (spoken s)) (spoken s) 1))
+      ∙ ap (λ b. begun_by (length (spoken s)) (spoken s) (cells 0 (spoken s)) b (found false (cells 0 (spoken s))))
+      (ap is_space here ∙ no_space (view (length (spoken s)) (spoken s) 1))
       ∙ ap (gathered (suc (length (spoken s))) (spoken s) []) (view_own longest (spoken s) 0)
 
   found_first : found true (view longest (spoken s) 0) ≡ found false (view longest (spoken s) 0)
@@ -114,7 +115,8 @@ module _ (s : Surface) (h : IsSpoken s) where
   gathers : Gathers longest 5 (check_token ∷ []) (behind_check s) (next (spoken s) 0)
   gathers =
       subst (Gathers longest 5 (check_token ∷ []) (behind_check s)) (sym next_gathers)
-      (gathered_pieces longest (spoken s) (behind_check s) (length (spoken s)) 5 check_token [] all_fine (drop_behind (spoken s) 0 (codes "Check") (bytes (behind_check s) ++ 46 ∷ []) refl) few_pieces)
+      (gathered_pieces longest (spoken s) (behind_check s) (length (spoken s)) 5 check_token [] all_fine
+      (drop_behind (spoken s) 0 (codes "Check") (bytes (behind_check s) ++ 46 ∷ []) refl) few_pieces)
 
   -- ---- the words
 
@@ -130,26 +132,33 @@ module _ (s : Surface) (h : IsSpoken s) where
   words_are : words (spoken s) all_tokens ≡ (name (codes "Check"), 0) ∷ (placed 6 (pieces any s) ++ end_words)
   words_are =
       words_append (spoken s) (check_token ∷ tokens 5 (behind_check s)) (stop_token stop_at ∷ [])
-      ∙ ap (λ ws. ws ++ words (spoken s) (stop_token stop_at ∷ [])) (words_placed (spoken s) (said (name (codes "Check")) ∷ behind_check s) 0 (46 ∷ []) (word_check, end_blank, all_fine) refl)
+      ∙ ap (λ ws. ws ++ words (spoken s) (stop_token stop_at ∷ []))
+      (words_placed (spoken s) (said (name (codes "Check")) ∷ behind_check s) 0 (46 ∷ []) (word_check, end_blank, all_fine) refl)
       ∙ ap (λ ws. ((name (codes "Check"), 0) ∷ placed 5 (behind_check s)) ++ ws) (word_stop (spoken s) stop_at)
       ∙ ap (λ ws. (name (codes "Check"), 0) ∷ ws) (split 6 (pieces any s) (blank ∷ []) end_words)
 
   rising : Rising ((name (codes "Check"), 0) ∷ (placed 6 (pieces any s) ++ end_words))
   rising =
       let f = fine_pieces s h any (32 ∷ 46 ∷ []) end_blank in
-      let low : 6 + length (bytes (pieces any s)) ≤ stop_at = omega (arith, ap length (bytes_append (pieces any s) (blank ∷ [])), length-append (bytes (pieces any s)) (32 ∷ [])) in
-      (above_placed 0 (pieces any s) 6 (32 ∷ 46 ∷ []) end_words f (omega arith) (omega arith, tt), rising_placed (pieces any s) 6 (32 ∷ 46 ∷ []) (symbol sign.Stop) stop_at f low)
+      let low : 6 + length (bytes (pieces any s)) ≤ stop_at =
+      omega (arith, ap length (bytes_append (pieces any s) (blank ∷ [])), length-append (bytes (pieces any s)) (32 ∷ [])) in (
+        above_placed 0 (pieces any s) 6 (32 ∷ 46 ∷ []) end_words f (omega arith) (omega arith, tt),
+        rising_placed (pieces any s) 6 (32 ∷ 46 ∷ []) (symbol sign.Stop) stop_at f low,
+      )
 
   reads : Reads 0 s (placed 6 (pieces any s) ++ end_words)
   reads = check_reads 0 stop_at rising ((says s h).term 6 end_words)
 
   -- ---- the sentence
 
-  read_whole : (r : reading.Whole Sentence) → reading.sentence ((name (codes "Check"), 0) ∷ (placed 6 (pieces any s) ++ end_words)) ≡ r → read_sentence (spoken s) all_tokens ≡ with_faults (length (spoken s)) r
+  read_whole : (r : reading.Whole Sentence) → reading.sentence ((name (codes "Check"), 0) ∷ (placed 6 (pieces any s) ++ end_words)) ≡ r →
+      read_sentence (spoken s) all_tokens ≡ with_faults (length (spoken s)) r
   unfolding read_sentence
   read_whole r e =
       let closed = closed_by_stop (spoken s) [] (check_token ∷ tokens 5 (behind_check s)) stop_at in
-      ap (λ b. elim (not b && nat_le (start_of all_tokens + longest) (length (spoken s))) as (λ _. Result Sentence SyntaxFault) [ true ↦ Err (SentenceTooLong (start_of all_tokens)) | false ↦ with_faults (length (spoken s)) (reading.sentence (words (spoken s) all_tokens)) ]) closed
+      ap (λ b. elim (not b && nat_le (start_of all_tokens + longest) (length (spoken s))) as (λ _. Result Sentence SyntaxFault)
+      [ true ↦ Err (SentenceTooLong (start_of all_tokens)) | false ↦ with_faults (length (spoken s)) (reading.sentence (words (spoken s) all_tokens)) ])
+      closed
       ∙ ap (with_faults (length (spoken s))) (ap reading.sentence words_are ∙ e)
 
   read_long : (us : List Token) → AreQuiet us → longest < length (spoken s) → read_sentence (spoken s) (check_token ∷ us) ≡ Err (SentenceTooLong 0)
@@ -157,8 +166,13 @@ module _ (s : Surface) (h : IsSpoken s) where
   read_long us q long =
       let open_is = quiet_open (spoken s) [] (check_token ∷ us) ((λ text ts. refl), q) in
       let large = le-leb longest (length (spoken s)) (omega arith) in
-      ap (λ b. elim (not b && nat_le (start_of (check_token ∷ us) + longest) (length (spoken s))) as (λ _. Result Sentence SyntaxFault) [ true ↦ Err (SentenceTooLong (start_of (check_token ∷ us))) | false ↦ with_faults (length (spoken s)) (reading.sentence (words (spoken s) (check_token ∷ us))) ]) open_is
-      ∙ ap (λ b. elim b as (λ _. Result Sentence SyntaxFault) [ true ↦ Err (SentenceTooLong 0) | false ↦ with_faults (length (spoken s)) (reading.sentence (words (spoken s) (check_token ∷ us))) ]) large
+      ap (λ b. elim (not b && nat_le (start_of (check_token ∷ us) + longest) (length (spoken s))) as (λ _. Result Sentence SyntaxFault) [
+        | true ↦ Err
+            (SentenceTooLong (start_of (check_token ∷ us)))
+        | false ↦ with_faults (length (spoken s)) (reading.sentence (words (spoken s) (check_token ∷ us)))
+      ]) open_is
+      ∙ ap (λ b. elim b as (λ _. Result Sentence SyntaxFault)
+      [ true ↦ Err (SentenceTooLong 0) | false ↦ with_faults (length (spoken s)) (reading.sentence (words (spoken s) (check_token ∷ us))) ]) large
 
   whole_length : length (spoken s) ≡ 5 + length (bytes (behind_check s)) + 1
   whole_length = let all = length-append (bytes (said (name (codes "Check")) ∷ behind_check s)) (46 ∷ []) in omega (arith, all)

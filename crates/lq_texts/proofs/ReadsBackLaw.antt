@@ -1,35 +1,26 @@
 -- What is printed of a term is read again.
-use Rattle.std.proofs.Common.{◌≡◌, ℕ, zero, suc, ◌+◌, ◌^◌, ◌<◌, ◌≤◌, max, Bool, true, false, List, [], ◌∷◌, ◌++◌, length, Option, Some, None, refl, sym, ap, ◌∙◌, subst, arith, inl, inr, eq-eqb, length-append}
-use Rattle.std.specs.Prelude.{◌⊎◌, ◌||◌, ◌==◌, slice_get, codes}
-use Rattle.std.specs.List.{AllByRecursion}
+use Rattle.std.proofs.Common.{◌≡◌, ℕ, zero, suc, ◌+◌, ◌^◌, ◌<◌, ◌≤◌, Bool, true, false, List, [], ◌∷◌, ◌++◌, length, refl, sym, ◌∙◌, arith, eq-eqb}
+use Rattle.std.specs.Prelude.{◌||◌, slice_get}
 use Rattle.std.proofs.lemmas.Bool.{ne_eqb}
-use Rattle.std.proofs.lemmas.Slice.Eq.{bytes_eq-Decides}
 use Rattle.lq_trees.specs.declared.Sort.{Sort as Universe}
-use Rattle.lq_trees.specs.Tree.{Name, Tree, same_name}
+use Rattle.lq_trees.specs.Tree.{Name, Tree}
 use Rattle.lq_trees.specs.Tree.Tree.{Rel, Var, Sort, Prod, Lam, Let, App, Const, Ind, Ctor, Elim, Evar}
-use Rattle.lq_trees.specs.Fresh.{is_listed, fresh_of}
 use Rattle.lq_trees.specs.Index.{Within}
 use Rattle.lq_trees.specs.Size.{depth}
 use Rattle.lq_calculus.specs.Declarations.{Env}
-use Rattle.lq_grammar.proofs.Computing.{cutting}
 use Rattle.lq_ast.specs.Syntax.{Surface}
-use Rattle.lq_texts.specs.Printing.{uses, names_in, own_name, printed_name, bound_name, sort_surface, product_surface, surface, term_text}
-use Rattle.lq_texts.specs.ReadBack.{IsPlainName, IsPlainBinder, IsTopped, IsPlain, HasFewNames, IsPrintable, check_sentence, ReadsBack}
-use Rattle.lq_texts.proofs.NameLexing.{IsLexed}
-use Rattle.lq_texts.proofs.Runs.{run_end}
+use Rattle.lq_texts.specs.Printing.{uses, names_in, printed_name, bound_name, sort_surface, product_surface, surface, term_text}
+use Rattle.lq_texts.specs.ReadBack.{IsTopped, IsPlain, check_sentence, ReadsBack}
 use Rattle.lq_texts.proofs.PrintedPieces.{IsWord, IsBinder, IsSpoken}
-use Rattle.lq_texts.proofs.Said.{IsFree}
-use Rattle.lq_texts.proofs.PlainNames.{lexed_of}
-use Rattle.lq_texts.proofs.NumberedNames.{numbered_word}
-use Rattle.lq_texts.proofs.FreshNames.{fresh_is}
 use Rattle.lq_texts.proofs.ReadSurface.{written_reads}
-use Rattle.lq_texts.proofs.PrintedNames.{plain_word, word_x, own_word, word_binder, or_true, or_first, or_second, listed_append, append_listed, Held, held_listed, held_left, held_right, printed_word}
+use Rattle.lq_texts.proofs.PrintedNames.{plain_word, or_first, or_second, Held, held_left, held_right, printed_word}
 
 -- each bound variable that occurs has a printed name
 abbrev Covers : List Name → Tree → Type 0
 Covers bs t = (i : ℕ) → uses i t ≡ true → IsWord (bound_name (slice_get bs i))
 
-covers_under : (bs : List Name) (y : Name) (body : Tree) → (uses 0 body ≡ true → IsWord y) → ((i : ℕ) → uses (suc i) body ≡ true → IsWord (bound_name (slice_get bs i))) → Covers (y ∷ bs) body
+covers_under : (bs : List Name) (y : Name) (body : Tree) → (uses 0 body ≡ true → IsWord y) →
+    ((i : ℕ) → uses (suc i) body ≡ true → IsWord (bound_name (slice_get bs i))) → Covers (y ∷ bs) body
 unfolding bound_name
 covers_under bs y body h k zero e = h e
 covers_under bs y body h k (suc i) e = k i e
@@ -47,7 +38,8 @@ sort_spoken (Universe.Level i) h = h
 -- ---- the surface of a printable term
 
 module _ (env : Env) (names : List Name) where
-  spoken_surface : (t : Tree) → IsPlain env t → Held names (names_in env t) → (bs : List Name) → Covers bs t → length names + length bs + depth t < 2 ^ 64 → IsSpoken (surface env bs t)
+  spoken_surface : (t : Tree) → IsPlain env t → Held names (names_in env t) → (bs : List Name) → Covers bs t → length names + length bs + depth t < 2 ^ 64 →
+      IsSpoken (surface env bs t)
   unfolding surface names_in uses
   spoken_surface (Rel i) p h bs c few = c i (eq-eqb i i refl)
   spoken_surface (Var x) p h bs c few = plain_word x p
@@ -73,8 +65,10 @@ module _ (env : Env) (names : List Name) where
       let held = held_right names (names_in env v ++ names_in env A) (names_in env t) h in
       let b = printed_word env names bs x t p.0 held (omega (arith, few)) in (
         b.1,
-        spoken_surface A p.2 (held_right names (names_in env v) (names_in env A) front) bs (λ i e. c i (or_first (uses i v || uses i A) _ (or_second (uses i v) _ e))) (omega (arith, few)),
-        spoken_surface v p.1 (held_left names (names_in env v) (names_in env A) front) bs (λ i e. c i (or_first (uses i v || uses i A) _ (or_first (uses i v) _ e))) (omega (arith, few)),
+        spoken_surface A p.2 (held_right names (names_in env v) (names_in env A) front) bs
+            (λ i e. c i (or_first (uses i v || uses i A) _ (or_second (uses i v) _ e))) (omega (arith, few)),
+        spoken_surface v p.1 (held_left names (names_in env v) (names_in env A) front) bs
+            (λ i e. c i (or_first (uses i v || uses i A) _ (or_first (uses i v) _ e))) (omega (arith, few)),
         spoken_surface t p.3 held (y ∷ bs) (covers_under bs y t b.0 (λ i e. c i (or_second (uses i v || uses i A) _ e))) (omega (arith, few)),
       )
   spoken_surface (App f a) p h bs c few = (
@@ -100,7 +94,8 @@ closed_uses env (Sort s) p n w i h = refl
 closed_uses env (Prod x A B) p n w i h = both (uses i A) _ (closed_uses env A p.1 n w.0 i h) (closed_uses env B p.2 (n + 1) w.1 (suc i) (omega arith))
 closed_uses env (Lam x A t) p n w i h = both (uses i A) _ (closed_uses env A p.1 n w.0 i h) (closed_uses env t p.2 (n + 1) w.1 (suc i) (omega arith))
 closed_uses env (Let x v A t) p n w i h =
-    both (uses i v || uses i A) _ (both (uses i v) _ (closed_uses env v p.1 n w.0 i h) (closed_uses env A p.2 n w.1 i h)) (closed_uses env t p.3 (n + 1) w.2 (suc i) (omega arith))
+    both (uses i v || uses i A) _ (both (uses i v) _ (closed_uses env v p.1 n w.0 i h) (closed_uses env A p.2 n w.1 i h))
+    (closed_uses env t p.3 (n + 1) w.2 (suc i) (omega arith))
 closed_uses env (App f a) p n w i h = both (uses i f) _ (closed_uses env f p.0 n w.0 i h) (closed_uses env a p.1 n w.1 i h)
 closed_uses env (Const c) p n w i h = refl
 closed_uses env (Ind c) p n w i h = refl
@@ -116,7 +111,8 @@ unfolding check_sentence term_text
 reads_back env t p =
     let few = p.few in
     written_reads (surface env [] t)
-    (spoken_surface env few.names t p.plain few.held [] (λ i e. absurd (true_false (sym e ∙ closed_uses env t p.plain 0 p.closed i (omega arith)))) (omega (arith, few.few)))
+    (spoken_surface env few.names t p.plain few.held [] (λ i e. absurd (true_false (sym e ∙ closed_uses env t p.plain 0 p.closed i (omega arith))))
+    (omega (arith, few.few)))
   where
     true_false : true ≡ false → ⊥
     true_false e = absurd cc

@@ -1,20 +1,13 @@
 -- Runs of characters in a text.
-use Rattle.std.proofs.Common.{◌≡◌, ℕ, zero, suc, ◌+◌, ◌-◌, ◌<◌, ◌≤◌, Bool, true, false, List, [], ◌∷◌, ◌++◌, drop, length, length-append, length-drop, Option, Some, None, refl, sym, ap, ◌∙◌, subst, arith, inl, inr, append_assoc, if◌then◌else◌}
-use Rattle.std.specs.Prelude.{◌⊎◌, ◌&&◌, nat_lt}
-use Rattle.std.proofs.lemmas.Bool.{le-ltb, ltb-false, ltb-true}
+use Rattle.std.proofs.Common.{◌≡◌, ℕ, ◌+◌, ◌<◌, ◌≤◌, Bool, true, false, List, [], ◌∷◌, ◌++◌, drop, length, length-drop, Some, refl, sym, ap, ◌∙◌, subst, arith, inl, inr}
+use Rattle.std.specs.Prelude.{◌⊎◌}
 use Rattle.std.proofs.lemmas.List.{drop-append-le}
 use Rattle.bstr.specs.Utf8.{decoded}
 use Rattle.bstr.proofs.lemmas.PieceLemmas.{piece-bounds}
-use Rattle.lq_grammar.specs.declared.fault.LexFault.TheVariants.{BadChar}
-use Rattle.lq_grammar.specs.declared.token.Class.{Class}
-use Rattle.lq_grammar.specs.declared.token.Class.TheVariants as class
-use Rattle.lq_grammar.specs.declared.token.TokenKind.{TokenKind}
-use Rattle.lq_grammar.specs.declared.token.TokenKind.TheVariants as kind
-use Rattle.lq_grammar.specs.Cells.{Cells, over, broken, beyond, letter, cells_from, place, front, past, goes_on, view}
-use Rattle.lq_grammar.specs.Tokens.{Found, bound, word, crossing, flaw, token, continues_name, longest_name, name_at, class_of, found_at, found}
-use Rattle.lq_grammar.proofs.CellLaws.{place-view}
+use Rattle.lq_grammar.specs.Cells.{Cells, beyond, letter, place, past, goes_on, view}
+use Rattle.lq_grammar.specs.Tokens.{continues_name}
 use Rattle.lq_grammar.proofs.Computing.{cutting}
-use Rattle.lq_texts.proofs.Fronts.{decoded_more, decoded_ascii, Shows, shows_in, shows_ascii, shown_front, drop_next, drop_behind}
+use Rattle.lq_texts.proofs.Fronts.{Shows, shows_in, shows_ascii, drop_next}
 
 -- a blank, a closing bracket or a comma
 pub data IsEnd : ℕ → Type 0 where
@@ -71,7 +64,8 @@ module _ (test : ℕ → Bool) where
   past_beyond p c = refl
 
   -- no run where the first character does not pass
-  pub past_stays : (L : ℕ) (text : List ℕ) (at c n : ℕ) → Shows L text at c n → test c ≡ false → (past test (view L text at) ≡ view L text at) × (goes_on test (view L text at) ≡ false)
+  pub past_stays : (L : ℕ) (text : List ℕ) (at c n : ℕ) → Shows L text at c n → test c ≡ false →
+      (past test (view L text at) ≡ view L text at) × (goes_on test (view L text at) ≡ false)
   unfolding goes_on
   past_stays L text at c n (inl s) e = (ap (past test) s.1 ∙ past_none at c _ e ∙ sym s.1, ap (goes_on test) s.1)
   past_stays L text at c n (inr s) e = (ap (past test) s.1 ∙ past_beyond at c ∙ sym s.1, ap (goes_on test) s.1 ∙ e)
@@ -82,7 +76,8 @@ module _ (test : ℕ → Bool) where
       ((stop ≤ L) × (past test (view L text at) ≡ view L text stop) × (goes_on test (view L text stop) ≡ false))
       ⊎ ((L < stop) × (goes_on test (past test (view L text at)) ≡ true) × (place (past test (view L text at)) ≤ stop))
 
-  pub runs_on : (L : ℕ) (text : List ℕ) (at c n stop : ℕ) → Shows L text at c n → test c ≡ true → at + n ≤ stop → (at + n ≤ L → RunsTo L text (at + n) stop) → RunsTo L text at stop
+  pub runs_on : (L : ℕ) (text : List ℕ) (at c n stop : ℕ) → Shows L text at c n → test c ≡ true → at + n ≤ stop → (at + n ≤ L → RunsTo L text (at + n) stop) →
+      RunsTo L text at stop
   unfolding goes_on place
   runs_on L text at c n stop (inl s) e h r = through (r s.0)
     where
@@ -96,7 +91,8 @@ module _ (test : ℕ → Bool) where
       let f = ap (past test) s.1 ∙ past_beyond at c in
       inr (omega (arith, s.0, h), ap (goes_on test) f ∙ e, subst (λ cs. place cs ≤ stop) (sym f) (omega arith))
 
-  pub run_to : (L : ℕ) (text : List ℕ) (at b : ℕ) (bs more : List ℕ) → Run test bs → at ≤ L → drop at text ≡ bs ++ (b ∷ more) → b < 128 → test b ≡ false → RunsTo L text at (at + length bs)
+  pub run_to : (L : ℕ) (text : List ℕ) (at b : ℕ) (bs more : List ℕ) → Run test bs → at ≤ L → drop at text ≡ bs ++ (b ∷ more) → b < 128 → test b ≡ false →
+      RunsTo L text at (at + length bs)
   run_to L text at b bs more run_end h e low stops =
       let P : ℕ → Type 0 = λ stop. RunsTo L text at stop in
       let same : at ≡ at + 0 = omega arith in

@@ -1,5 +1,5 @@
 -- Printed terms as words: how they are put together.
-use Rattle.std.specs.Prelude.{◌≡◌, ℕ, ◌≤◌, true, false, List, [], ◌∷◌, codes}
+use Rattle.std.specs.Prelude.{◌≡◌, ℕ, ◌≤◌, false, [], ◌∷◌, codes}
 use Rattle.lq_grammar.specs.declared.token.Symbol.TheVariants.{ColonEqual, FatArrow, Arrow as ArrowSign, OpenRound, CloseRound, Colon, Comma, Underscore}
 use Rattle.lq_grammar.specs.Selectors.{is_reserved}
 use Rattle.lq_trees.specs.Tree.{Name}
@@ -28,7 +28,8 @@ mutual
         Said (Forall x (Written A) t) ((name (codes "forall"), p) ∷ (bound_word x, q) ∷ (symbol Colon, r) ∷ us) rest
     said_fun : {x : Name} {A t : Surface} {p q r o : ℕ} {us vs rest : Words} → IsFreeBinder x → Said A us ((symbol FatArrow, o) ∷ vs) → Said t vs rest →
         Said (Fun x (Written A) t) ((name (codes "fun"), p) ∷ (bound_word x, q) ∷ (symbol Colon, r) ∷ us) rest
-    said_let : {x : Name} {A v t : Surface} {p q r o i : ℕ} {us vs ws rest : Words} → IsFreeBinder x → Said A us ((symbol ColonEqual, o) ∷ vs) → Said v vs ((name (codes "in"), i) ∷ ws) → Said t ws rest →
+    said_let : {x : Name} {A v t : Surface} {p q r o i : ℕ} {us vs ws rest : Words} → IsFreeBinder x → Said A us ((symbol ColonEqual, o) ∷ vs) →
+        Said v vs ((name (codes "in"), i) ∷ ws) → Said t ws rest →
         Said (LetIn x (Written A) v t) ((name (codes "let"), p) ∷ (bound_word x, q) ∷ (symbol Colon, r) ∷ us) rest
     said_arrow : {a b : Surface} {o : ℕ} {us vs rest : Words} → Spine a us ((symbol ArrowSign, o) ∷ vs) → Said b vs rest → Said (Arrow a b) us rest
     said_spine : {s : Surface} {us rest : Words} → Spine s us rest → Said s us rest

@@ -1,7 +1,7 @@
 -- Terms and declarations that rows are about.
-use Rattle.std.specs.Prelude.{ℕ, List, [], ◌∷◌, map, codes, true, false, None}
+use Rattle.std.specs.Prelude.{ℕ, List, [], ◌∷◌, map, codes, true, None}
 use Rattle.lq_trees.specs.declared.Sort.{Sort as Universe}
-use Rattle.lq_trees.specs.Tree.{Name, Tree, Hypothesis}
+use Rattle.lq_trees.specs.Tree.{Tree}
 use Rattle.lq_trees.specs.Tree.Tree.{Rel, Var, Sort, Prod, Lam, Let, App, Ind}
 use Rattle.lq_calculus.specs.Declarations.{Env, constant, Family, family_entries}
 use Rattle.lq_texts.specs.Printing.{term_text}
@@ -50,7 +50,8 @@ either = record {
   parameters = record { name = codes "A"; body = None; kind = base } ∷ [];
   indices = [];
   sort = Universe.Base;
-  constructors = (codes "one", Prod [] (Var (codes "A")) (App (Ind (codes "or")) (Var (codes "A")))) ∷ (codes "two", App (Ind (codes "or")) (Var (codes "A"))) ∷ [];
+  constructors =
+      (codes "one", Prod [] (Var (codes "A")) (App (Ind (codes "or")) (Var (codes "A")))) ∷ (codes "two", App (Ind (codes "or")) (Var (codes "A"))) ∷ [];
 }
 
 -- it is eliminated into Prop alone

@@ -1,25 +1,17 @@
 -- Printed terms are read again.
-use Rattle.std.proofs.Common.{◌≡◌, ℕ, zero, suc, ◌+◌, ◌-◌, ◌≤◌, Bool, true, false, List, [], ◌∷◌, ◌++◌, Ok, Err, refl, sym, ap, subst, ◌∙◌, inl, inr, arith, append-nil, append_assoc}
-use Rattle.std.specs.Prelude.{◌⊎◌, ◌&&◌, ◌||◌, not, nat_le, codes}
-use Rattle.std.proofs.lemmas.Bool.{le-leb}
-use Rattle.std.proofs.lemmas.Slice.Eq.{bytes_eq-Decides}
-use Rattle.lq_grammar.specs.declared.token.Symbol.TheVariants.{ColonEqual, FatArrow, Arrow as ArrowSign, OpenRound, CloseRound, Colon, Comma, Underscore, Question}
-use Rattle.lq_grammar.specs.Selectors.{is_reserved}
-use Rattle.lq_trees.specs.Tree.{Name}
-use Rattle.lq_ast.specs.Syntax.{Surface, Forall, Fun, LetIn, Arrow, Applied, applied, Ident, PropSort, TypeSort, Written}
-use Rattle.lq_sentences.specs.Words.{Word, Words, name, number, quoted, symbol, bullet, is_name, is_sign, same_symbol, reads, text_of}
-use Rattle.lq_sentences.specs.Rules.{Rule, ◌>>=◌, ◌<$>◌, pure, choose, sees, too_nested, Read, and_then, read_word, read}
-use Rattle.lq_sentences.specs.Parts.{many, behind, expect}
-use Rattle.lq_sentences.specs.Terms.{Spot, top_level, begins_atom, begins_term, begins_argument, is_level, level_of, cast_behind, bracketed, behind_type, atom_at, atom, arguments, arrow_behind, arrow_term, quantified, let_term, term_in, no_term, levels, term}
+use Rattle.std.proofs.Common.{◌≡◌, ℕ, true, ◌∷◌, refl}
+use Rattle.std.specs.Prelude.{codes}
+use Rattle.lq_grammar.specs.declared.token.Symbol.TheVariants.{OpenRound}
+use Rattle.lq_ast.specs.Syntax.{Surface, Ident, PropSort, TypeSort}
+use Rattle.lq_sentences.specs.Words.{Words, name, number, symbol, is_name, is_sign, same_symbol, reads}
+use Rattle.lq_sentences.specs.Rules.{sees, read}
+use Rattle.lq_sentences.specs.Terms.{begins_term, term}
 use Rattle.lq_sentences.specs.Patterns.{free_spot}
-use Rattle.lq_sentences.proofs.RuleLaws.{chosen_true, chosen_false}
-use Rattle.lq_sentences.proofs.LoopLaws.{many_again, many_done}
-use Rattle.lq_texts.proofs.Said.{bound_word, IsFree, IsFreeBinder, Said, said_forall, said_fun, said_let, said_arrow, said_spine, Spine, spine_applied, spine_atom, Atom, atom_name, atom_prop, atom_type, atom_brackets}
-use Rattle.lq_texts.proofs.GoodLaws.{Good, good_then, good_word, good_first, good_second, good_is, good_done}
-use Rattle.lq_texts.proofs.BinderReading.{behind_sign, quantified_good, let_good}
-use Rattle.lq_texts.proofs.AtomRows.{an_atom, Row, Cut, row_push, row_cut, Atoms, OneAtom, one_of, applied_more, applied_nil, atoms_one, atoms_more, looped, word_here, turn, loop_row, loop_cut, row_end, row_more, cut_here, cut_later}
-use Rattle.lq_texts.proofs.AtomReading.{or_false, IsOwn, own_word, starts, name_good, type_good, brackets_good, Halts, no_level, no_level, term_above, reads_is, other_word, and_left, or_left, begins_some}
-use Rattle.lq_texts.proofs.TermForms.{sees_begins, forall_case, fun_case, let_case, passes, begins_app, first_word, app_by, behind_row, behind_cut, app_row, app_cut, app_good, arrow_good, app_case, arrow_case, at_comma, at_fat_arrow, at_becomes, at_close, at_in}
+use Rattle.lq_texts.proofs.Said.{Said, said_forall, said_fun, said_let, said_arrow, said_spine, Spine, spine_applied, spine_atom, Atom, atom_name, atom_prop, atom_type, atom_brackets}
+use Rattle.lq_texts.proofs.GoodLaws.{Good, good_done}
+use Rattle.lq_texts.proofs.AtomRows.{Atoms, OneAtom, one_of, atoms_one, atoms_more}
+use Rattle.lq_texts.proofs.AtomReading.{starts, name_good, type_good, brackets_good, Halts}
+use Rattle.lq_texts.proofs.TermForms.{sees_begins, forall_case, fun_case, let_case, app_case, arrow_case, at_comma, at_fat_arrow, at_becomes, at_close, at_in}
 
 -- ---- each printed term begins a term
 
@@ -60,6 +52,7 @@ mutual
   pub atom_reads : {s : Surface} {us rest : Words} → Atom s us rest → (m : ℕ) → OneAtom m s us rest
   atom_reads {rest = rest} (atom_name {x = x} {p = p} h) m = one_of m (Ident x) (name x, p) rest rest (starts x h) (name_good m x p rest h)
   atom_reads {rest = rest} (atom_prop {p = p}) m = one_of m PropSort (name (codes "Prop"), p) rest rest refl (good_done (PropSort, rest))
-  atom_reads {rest = rest} (atom_type {i = i} {p = p} {q = q} h) m = one_of m (TypeSort i) (name (codes "Type"), p) ((number i, q) ∷ rest) rest refl (type_good m i p q rest h)
+  atom_reads {rest = rest} (atom_type {i = i} {p = p} {q = q} h) m =
+      one_of m (TypeSort i) (name (codes "Type"), p) ((number i, q) ∷ rest) rest refl (type_good m i p q rest h)
   atom_reads {rest = rest} (atom_brackets {s = s} {p = p} {q = q} {us = us} d) m =
       one_of m s (symbol OpenRound, p) us rest refl (brackets_good m s p q us rest (term_reads d m (at_close q rest)))

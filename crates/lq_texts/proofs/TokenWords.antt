@@ -1,20 +1,14 @@
 -- The words of the tokens of a printed text, and its whole sentence.
 use Rattle.std.proofs.Common.{◌≡◌, ℕ, zero, suc, ◌+◌, ◌-◌, ◌<◌, ◌≤◌, Bool, true, false, not, List, [], ◌∷◌, ◌++◌, take, drop, length, map, Option, Some, None, Result, Ok, Err, refl, sym, ap, ◌∙◌, subst, arith, inl, inr, length-append, length-drop, append_assoc}
-use Rattle.std.specs.Prelude.{◌⊎◌, ◌&&◌, nat_le, codes, decimal}
-use Rattle.std.proofs.lemmas.Bool.{le-leb}
-use Rattle.lq_grammar.specs.declared.fault.LexFault.{LexFault}
 use Rattle.lq_grammar.specs.declared.token.Symbol.TheVariants as sign
 use Rattle.lq_grammar.specs.declared.token.Token.{Token}
-use Rattle.lq_grammar.specs.declared.token.TokenKind.TheVariants as kind
 use Rattle.lq_grammar.specs.Selectors.{closes, spelled}
-use Rattle.lq_grammar.specs.Cutting.{Next, sentence, longest, end_of, so_far}
 use Rattle.lq_sentences.specs.Words.{Word, Words, name, number, symbol, word_of, words}
-use Rattle.lq_sentences.specs.Reading.{is_closed_behind, is_too_long, start_of}
+use Rattle.lq_sentences.specs.Reading.{is_closed_behind}
 use Rattle.lq_sentences.proofs.PlaceLaws.{Above, Rising}
 use Rattle.lq_texts.proofs.Fronts.{drop_next, drop_behind}
-use Rattle.lq_texts.proofs.NameLexing.{IsLexed}
-use Rattle.lq_texts.proofs.Pieces.{Piece, blank, said, spelling, bytes, kind_of, tokens, placed, IsUsed, IsSayable, Fine, sign_text}
-use Rattle.lq_texts.proofs.Gathering.{stop_token, IsQuiet, AreQuiet}
+use Rattle.lq_texts.proofs.Pieces.{Piece, blank, said, spelling, bytes, kind_of, tokens, placed, IsSayable, Fine}
+use Rattle.lq_texts.proofs.Gathering.{stop_token, AreQuiet}
 
 -- ---- words
 
@@ -23,7 +17,8 @@ take_front [] ys = Rattle.std.proofs.Common.refl
 take_front (x ∷ xs) ys = ap (λ zs. x ∷ zs) (take_front xs ys)
 
 -- the bytes of a token are those of its word
-spelled_is : (text : List ℕ) (at : ℕ) (w : Word) (more : List ℕ) → drop at text ≡ spelling w ++ more → spelled text (record { kind = kind_of w; start = at; end = at + length (spelling w) }) ≡ spelling w
+spelled_is : (text : List ℕ) (at : ℕ) (w : Word) (more : List ℕ) → drop at text ≡ spelling w ++ more →
+    spelled text (record { kind = kind_of w; start = at; end = at + length (spelling w) }) ≡ spelling w
 spelled_is text at w more e =
     let n : at + length (spelling w) - at ≡ length (spelling w) = omega arith in
     ap (λ k. take k (drop at text)) n ∙ ap (take (length (spelling w))) e ∙ take_front (spelling w) more
@@ -35,7 +30,8 @@ word_is (number n) bs h e = refl
 word_is (symbol s) bs h e = refl
 word_is _ bs h e = absurd h
 
-pub words_placed : (text : List ℕ) (ps : List Piece) (at : ℕ) (tail : List ℕ) → Fine ps tail → drop at text ≡ bytes ps ++ tail → words text (tokens at ps) ≡ placed at ps
+pub words_placed : (text : List ℕ) (ps : List Piece) (at : ℕ) (tail : List ℕ) → Fine ps tail → drop at text ≡ bytes ps ++ tail →
+    words text (tokens at ps) ≡ placed at ps
 unfolding words
 words_placed text [] at tail f e = refl
 words_placed text (blank ∷ ps) at tail f e = words_placed text ps (at + 1) tail f (drop_next text at 1 (32 ∷ (bytes ps ++ tail)) e)
@@ -85,13 +81,16 @@ above_placed m [] at tail ws f h a = a
 above_placed m (blank ∷ ps) at tail ws f h a = above_placed m ps (at + 1) tail ws f (omega arith) a
 above_placed m (said w ∷ ps) at tail ws f h a = (h, above_placed m ps (at + length (spelling w)) tail ws f.2 (omega arith) a)
 
-pub rising_placed : (ps : List Piece) (at : ℕ) (tail : List ℕ) (w : Word) (o : ℕ) → Fine ps tail → at + length (bytes ps) ≤ o → Rising (placed at ps ++ (w, o) ∷ [])
+pub rising_placed : (ps : List Piece) (at : ℕ) (tail : List ℕ) (w : Word) (o : ℕ) → Fine ps tail → at + length (bytes ps) ≤ o →
+    Rising (placed at ps ++ (w, o) ∷ [])
 rising_placed [] at tail w o f h = (tt, tt)
 rising_placed (blank ∷ ps) at tail w o f h = rising_placed ps (at + 1) tail w o f (omega arith)
 rising_placed (said v ∷ ps) at tail w o f h =
     let n = some_bytes v f.0 in
-    let len = length-append (spelling v) (bytes ps) in
-    (above_placed at ps (at + length (spelling v)) tail ((w, o) ∷ []) f.2 (omega (arith, n)) (omega (arith, n, len), tt), rising_placed ps (at + length (spelling v)) tail w o f.2 (omega (arith, len)))
+    let len = length-append (spelling v) (bytes ps) in (
+      above_placed at ps (at + length (spelling v)) tail ((w, o) ∷ []) f.2 (omega (arith, n)) (omega (arith, n, len), tt),
+      rising_placed ps (at + length (spelling v)) tail w o f.2 (omega (arith, len)),
+    )
 
 -- ---- whether the sentence is closed
 

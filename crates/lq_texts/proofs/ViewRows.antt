@@ -1,7 +1,7 @@
 -- What sentences write, computed.
 use Rattle.std.specs.Prelude.{◌≡◌, refl, [], ◌∷◌, ◌++◌, codes, None, Some, Ok, Err}
 use Rattle.lq_trees.specs.declared.Sort.{Sort as Universe}
-use Rattle.lq_trees.specs.Tree.Tree.{Var, Prod, Lam, Const}
+use Rattle.lq_trees.specs.Tree.Tree.{Var, Prod, Const}
 use Rattle.lq_calculus.specs.Declarations.{constant}
 use Rattle.lq_texts.specs.Causes.{elim_forbidden, unknown, nothing_applies, no_more, no_match}
 use Rattle.lq_texts.specs.Views.{Goal, proof_text, print_text, check_text, outcome_text, end_text, fail_text, defined_text}
@@ -11,7 +11,16 @@ use Rattle.lq_texts.proofs.Samples.{base, at_level, a_, b_, same, arrow, identit
 -- ---- `Show`
 
 abbrev one_goal : Goal
-one_goal = record { name = None; context = record { name = codes "A"; body = None; kind = base } ∷ record { name = codes "x"; body = None; kind = Var (codes "A") } ∷ []; kind = Var (codes "A") }
+one_goal = record {
+  name = None;
+  context = record { name = codes "A"; body = None; kind = base } ∷ record {
+    name = codes "x";
+    body = None;
+    kind = Var
+        (codes "A");
+  } ∷ [];
+  kind = Var (codes "A");
+}
 
 show : proof_text [] (record { goals = one_goal ∷ []; shelved = 0 }) ≡ codes "1 goal\ngoal 1\n  A : Prop\n  x : A\n  ====\n  A\n"
 unfolding printing
@@ -19,7 +28,8 @@ show = refl
 
 -- a goal with a name, a hypothesis with a body, a goal without hypotheses, and the shelf
 show_all : proof_text [] (record {
-  goals = record { name = Some (codes "n"); context = record { name = codes "h"; body = Some same; kind = arrow } ∷ []; kind = a_ } ∷ record { name = None; context = []; kind = base } ∷ [];
+  goals = record { name = Some (codes "n"); context = record { name = codes "h"; body = Some same; kind = arrow } ∷ []; kind = a_ }
+      ∷ record { name = None; context = []; kind = base } ∷ [];
   shelved = 2;
 })
     ≡ codes "2 goals\ngoal 1 (n)\n  h : a -> b := fun x : Prop => x\n  ====\n  a\ngoal 2\n  ====\n  Prop\nshelved: 2\n"
@@ -41,7 +51,8 @@ print_opaque : print_text identity (codes "id") ≡ Ok (codes "id : forall A : P
 unfolding printing
 print_opaque = refl
 
-print_transparent : print_text ((codes "up", constant (at_level 2) (Const (codes "nat")) Rattle.std.specs.Prelude.false) ∷ []) (codes "up") ≡ Ok (codes "up : Type 2 := nat\n")
+print_transparent : print_text ((codes "up", constant (at_level 2) (Const (codes "nat")) Rattle.std.specs.Prelude.false) ∷ []) (codes "up")
+    ≡ Ok (codes "up : Type 2 := nat\n")
 unfolding printing
 print_transparent = refl
 
@@ -53,7 +64,8 @@ print_constructor : print_text choices (codes "one") ≡ Ok (codes "one : forall
 unfolding printing
 print_constructor = refl
 
-print_eliminator : print_text choices (codes "or_ind") ≡ Ok (codes "or_ind : forall A : Prop, forall Q : or A -> Prop, (forall x : A, Q (one A x)) -> Q (two A) -> forall z : or A, Q z\n")
+print_eliminator : print_text choices (codes "or_ind")
+    ≡ Ok (codes "or_ind : forall A : Prop, forall Q : or A -> Prop, (forall x : A, Q (one A x)) -> Q (two A) -> forall z : or A, Q z\n")
 unfolding printing
 print_eliminator = refl
 
