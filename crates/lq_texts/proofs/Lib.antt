@@ -28,6 +28,7 @@ pub mod NumberedNames
 pub mod FreshNames
 pub mod PrintedNames
 pub mod ReadsBackLaw
+pub mod Closing
 mod Samples
 mod TermRows
 mod FaultRows

@@ -121,7 +121,9 @@ pub record StandsIn (env : Env) (g : Context) (t : Tree) : Type 0 where
   -- its hypotheses are those of the context
   pub known : HoldsOnly (map (λ h. h.name) g) t
   -- no hypothesis has the name of a global of the term
-  pub apart : All (λ h. is_listed (globals env t) h.name ≡ false) g
+  pub apart : AllByRecursion (λ h. is_listed (globals env t) h.name ≡ false) g
+  -- the context and the term's depth are counted by a machine's word
+  pub small : length g + depth t < 2 ^ 64
 
 -- `Check TEXT .`
 unfoldable pub check_sentence : Env → Tree → List ℕ
