@@ -25,6 +25,7 @@ pub mod NestingLaws
 pub mod LeastPlace
 pub mod FaultPlaces
 mod Trying
+mod Placing
 mod TreeRows
 mod LongRows
 mod ScriptRows

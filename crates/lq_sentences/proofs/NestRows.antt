@@ -4,19 +4,16 @@ use Rattle.lq_grammar.specs.declared.token.Symbol.TheVariants as sign
 use Rattle.lq_ast.specs.Syntax as u
 use Rattle.lq_ast.specs.Tactics as t
 use Rattle.lq_ast.specs.Commands as v
-use Rattle.lq_sentences.specs.Words.{Word, Words, name, number, symbol}
+use Rattle.lq_sentences.specs.Words.{Word, name, number, symbol}
 use Rattle.lq_sentences.specs.Rules.{unexpected, too_nested}
 use Rattle.lq_sentences.specs.Reading.{sentence}
 use Rattle.lq_sentences.proofs.Computing.{reading}
+use Rattle.lq_sentences.proofs.Placing.{placed}
 
 -- some words so many times, before others
 unfoldable times : ℕ → List Word → List Word → List Word
 times zero xs ys = ys
 times (suc n) xs ys = xs ++ times n xs ys
-
-unfoldable placed : ℕ → List Word → Words
-placed n [] = []
-placed n (w ∷ ws) = (w, n) ∷ placed (suc n) ws
 
 abbrev a : Word
 a = name (codes "a")
