@@ -17,3 +17,4 @@ mod view;
 pub use cutting::cut;
 pub use lq_grammar::{LexFault, Symbol, Token, TokenKind};
 pub use piece::{Piece, Tokens};
+pub use selectors::closes;

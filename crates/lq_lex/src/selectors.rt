@@ -201,7 +201,7 @@ pub(crate) fn is_open_curly(kind: TokenKind) -> bool
 /// Whether a token ends the sentence that has these tokens before it; `braced` says whether there is a `{` among them,
 /// behind which no other opens anything.
 #[tactic(auto, unfolding(lq_grammar::specs::Selectors::closes), using(crate::proofs::SelectorLaws::braced_opens))]
-pub(crate) fn closes(kind: TokenKind, text: &[u8], tokens: &[Token], braced: bool) -> bool
+pub fn closes(kind: TokenKind, text: &[u8], tokens: &[Token], braced: bool) -> bool
     requires spanned { All (IsSpanned text.now) tokens.now }
     requires known { braced ≡ list_any (λ t. is_open_curly t.kind) tokens.now }
     ensures { result ≡ closes kind text.now tokens.now }

@@ -1,0 +1,4 @@
+pub mod SpellingLaws
+pub mod StringLaws
+pub mod CutLaws
+pub mod WordLaws
