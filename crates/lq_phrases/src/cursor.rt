@@ -14,6 +14,7 @@ use std::alloc::Global;
 use std::marker::Model;
 
 /// The words that are left.
+#[derive(Drop)]
 pub struct Cursor<'w, 't> {
     words: &'w [Placed<'t>],
 }
