@@ -39,10 +39,10 @@ or_right : (a b : Bool) → b ≡ true → Rattle.std.specs.Prelude.◌||◌ a b
 or_right true b e = refl
 or_right false b e = e
 
-same_self : (x : Name) → same_name x x ≡ true
+pub same_self : (x : Name) → same_name x x ≡ true
 same_self x = (bytes_eq-Decides x x).1 refl
 
-got_listed : (ys : List Name) (k : ℕ) (y : Name) → slice_get ys k ≡ Some y → is_listed ys y ≡ true
+pub got_listed : (ys : List Name) (k : ℕ) (y : Name) → slice_get ys k ≡ Some y → is_listed ys y ≡ true
 unfolding is_listed
 got_listed [] k y e = absurd cc
 got_listed (x ∷ ys) zero y e = let same : x ≡ y = cc in rw same (rw (same_self y) refl)

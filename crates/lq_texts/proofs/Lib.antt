@@ -29,6 +29,9 @@ pub mod FreshNames
 pub mod PrintedNames
 pub mod ReadsBackLaw
 pub mod Closing
+pub mod ElaborationSteps
+pub mod Elaborating
+pub mod ElaboratesBackLaw
 mod Samples
 mod TermRows
 mod FaultRows

@@ -86,7 +86,7 @@ both true b e f = absurd cc
 both false b e f = f
 
 -- no loose variable occurs in a term that has none
-closed_uses : (env : Env) (t : Tree) → IsPlain env t → (n : ℕ) → Within n t → (i : ℕ) → n ≤ i → uses i t ≡ false
+pub closed_uses : (env : Env) (t : Tree) → IsPlain env t → (n : ℕ) → Within n t → (i : ℕ) → n ≤ i → uses i t ≡ false
 unfolding uses
 closed_uses env (Rel j) p n w i h = ne_eqb i j (λ e. absurd (omega (arith, e, w, h)))
 closed_uses env (Var x) p n w i h = refl
