@@ -1,3 +1,16 @@
 pub mod Lookups
 pub mod Variables
 pub mod Bodies
+pub mod NearLaws
+pub mod TurnLaws
+pub mod Growing
+pub mod Steps
+pub mod Fillings
+pub mod Known
+pub mod Rebuilt
+pub mod ValueRead
+pub mod Given
+pub mod Standing
+pub mod Stepping
+pub mod Asking
+pub mod Comparing

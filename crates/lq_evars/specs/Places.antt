@@ -84,6 +84,10 @@ pub record IsOwn (bank : Terms) (x : NameId) : Type 0 where
 abbrev pub one_more : Places → Variable → Places
 one_more s v = record { variables = s.variables ++ v ∷ []; values = s.values }
 
+-- one value more
+abbrev pub one_given : Places → ℕ → TermId → Places
+one_given s k t = record { variables = s.variables; values = s.values ++ (k, t) ∷ [] }
+
 -- no variable has that name, if there is one
 abbrev pub IsNewName : Places → Option NameId → Type 0
 IsNewName s None = Unit {0}

@@ -1,18 +1,27 @@
 //! Existential variables in order of making, and the values that they were given.
 
-ghost use Rattle.std.specs.Prelude.{◌≡◌, ◌<◌, Some, [], length, take, slice_get, option_map, OnOk, OnErr, IfOk, IfErr};
+ghost use Rattle.std.specs.Prelude.{ℕ, ◌≡◌, ◌<◌, Some, None, [], length, take, slice_get, option_map, OnOk, OnErr, IfOk, IfErr};
 ghost use Rattle.lq_evars.specs.declared.store.StoreFault.{StoreFault};
 ghost use Rattle.lq_terms.specs.Terms.{Terms, text_of, tree_of};
 ghost use Rattle.lq_terms.specs.Contexts.{context_of};
+ghost use Rattle.lq_terms.specs.Telling.{HasValues, values_in};
 ghost use Rattle.lq_terms.specs.declared.nodes.TermId.{TermId};
+ghost use Rattle.lq_trees.specs.Index.{Within};
+ghost use Rattle.lq_terms.specs.Terms.{HasTerm, Grows};
 ghost use Rattle.lq_solving.specs.Stores.{Variable as TreeVariable, no_variables, count, value, named_variable, new_variable, with_kind};
-ghost use Rattle.lq_solving.specs.Kept.{IsStore, IsVariable, StandsIn};
+ghost use Rattle.lq_solving.specs.Stores.{values_of, assigned, read, read_fitting, reads_same};
+ghost use Rattle.lq_solving.specs.Kept.{IsStore, IsVariable, IsValue, IsOver, StandsIn};
 ghost use Rattle.lq_evars.specs.declared.store.Variable.{Variable};
-ghost use Rattle.lq_evars.specs.Places.{Places, store_of, variable_of, value_at, number_of, HasStore, IsOwn, IsOwnOr, IsNewName};
-ghost use Rattle.lq_evars.specs.Places.{GivesMore, Makes, one_more, kind_changed};
+ghost use Rattle.lq_evars.specs.Places.{Places, store_of, variable_of, value_at, number_of, HasStore, IsOwn, IsOwnOr, IsNewName, body_at};
+ghost use Rattle.lq_evars.specs.Places.{GivesMore, Makes, one_more, one_given, kind_changed};
+ghost use Rattle.lq_evars.specs.Reading.{Answers, Compares, Gives, Stands};
 
+use crate::copying::copied_all;
+use crate::filling::is_over;
+use crate::reading::read_near;
 use indexmap::IndexMap;
-use lq_terms::{Bodies, Context, NameId, NoMemory, TermId};
+use lq_terms::{Bank, Bodies, Context, NameId, NoMemory, TermId, fits, same};
+use lq_trees::Fit;
 use std::alloc::Global;
 use std::marker::Model;
 
@@ -83,6 +92,42 @@ impl Store {
             values: IndexMap::new(alloc),
             numbers: IndexMap::new(alloc),
         })
+    }
+
+    /// The same store. It takes time in proportion to what the store holds.
+    pub fn copy(&self, alloc: Global) -> Result<Store, NoMemory>
+        ensures { IfOk result (λ s. s ≡ self.now) }
+    {
+        let variables = copied_all(alloc, self.variables.as_slice())?;
+        self.with_variables(variables)
+    }
+
+    /// A store with the same values and numbers, and with variables that are the same.
+    fn with_variables(&self, variables: Vec<Variable>) -> Result<Store, NoMemory>
+        requires { variables.items ≡ self.now.variables }
+        ensures { IfOk result (λ s. s ≡ self.now) }
+    {
+        let Ok(values) = self.values.clone() else {
+            return Err(NoMemory);
+        };
+        let Ok(numbers) = self.numbers.clone() else {
+            return Err(NoMemory);
+        };
+        Ok(Store {
+            variables,
+            values,
+            numbers,
+        })
+    }
+
+    /// What a store tells reduction of its variables' values is what is asked of such values, and is what the definition tells. It does
+    /// nothing when it runs.
+    pub fn values_stand(&self)
+        ensures stand { (bank : Terms) → HasStore bank self.now → IsStore (store_of bank self.now) → HasValues bank (body_at self.now) }
+        ensures told { (bank : Terms) → IsStore (store_of bank self.now) → (k : ℕ)
+            → values_in bank (body_at self.now) k ≡ values_of (store_of bank self.now) k }
+    {
+        let _values = &self.values;
     }
 
     /// How many variables there are. It takes no memory.
@@ -214,6 +259,87 @@ impl Store {
         ensures told { (bank : Terms) → store_of bank self.new ≡ with_kind (store_of bank self.old) id (tree_of bank kind) }
     {
         self.variables[id as usize].kind = kind;
+    }
+
+    /// The term with all values filled in. It is refused as too large exactly where that has more than 1,000,000 nodes, and as
+    /// too deep exactly where it fits in size and is deeper than 2,000. A part that reads as it stands keeps its place, one that
+    /// occurs often is read once, and nothing is built that has more than 1,000,000 nodes.
+    pub fn read(&self, bank: &mut Bank<'_>, term: TermId) -> Result<TermId, StoreFault>
+        requires store { HasStore bank.old self.now }
+        requires kept { IsStore (store_of bank.old self.now) }
+        requires term { HasTerm bank.old term }
+        requires over { IsOver (store_of bank.old self.now).variables (tree_of bank.old term) }
+        requires closed { Within 0 (tree_of bank.old term) }
+        ensures answer { Answers bank.new result (read_fitting (store_of bank.old self.now) (tree_of bank.old term)) }
+        ensures grows { Grows bank.old bank.new }
+    {
+        let answer = read_near(bank, self, term)?;
+        if is_over(bank, answer) {
+            return Err(StoreFault::TooLarge);
+        }
+        match fits(bank, answer) {
+            Fit::Fits => Ok(answer),
+            Fit::TooLarge => Err(StoreFault::TooLarge),
+            Fit::TooDeep => Err(StoreFault::TooDeep),
+        }
+    }
+
+    /// Whether two terms as they read are equal but for the names of binders. It is refused as too large exactly where one of them
+    /// as it reads has more than 1,000,000 nodes, however deep they are.
+    pub fn same(&self, bank: &mut Bank<'_>, left: TermId, right: TermId) -> Result<bool, StoreFault>
+        requires store { HasStore bank.old self.now }
+        requires kept { IsStore (store_of bank.old self.now) }
+        requires left { Stands bank.old (store_of bank.old self.now).variables left }
+        requires right { Stands bank.old (store_of bank.old self.now).variables right }
+        ensures answer { Compares result (reads_same (store_of bank.old self.now) (tree_of bank.old left) (tree_of bank.old right))
+            (read (store_of bank.old self.now) (tree_of bank.old left)) (read (store_of bank.old self.now) (tree_of bank.old right)) }
+        ensures grows { Grows bank.old bank.new }
+    {
+        let first = read_near(bank, self, left)?;
+        let second = read_near(bank, self, right)?;
+        if is_over(bank, first) {
+            return Err(StoreFault::TooLarge);
+        }
+        if is_over(bank, second) {
+            return Err(StoreFault::TooLarge);
+        }
+        Ok(same(bank, first, second))
+    }
+
+    /// A value for a variable that has none: a body that does not lead back to the variable, and as it reads holds hypotheses of
+    /// the variable's context alone. It is refused as too large or too deep exactly where the body as it reads passes those limits;
+    /// after a refusal the store is as before.
+    pub fn assign(&mut self, bank: &mut Bank<'_>, id: u32, body: TermId) -> Result<(), StoreFault>
+        requires store { HasStore bank.old self.old }
+        requires kept { IsStore (store_of bank.old self.old) }
+        requires body { HasTerm bank.old body }
+        requires value { IsValue (store_of bank.old self.old).variables (store_of bank.old self.old).values (record { id = id; body = tree_of bank.old body }) }
+        ensures given { OnOk result (self.new ≡ one_given self.old id body) }
+        ensures kept { OnErr result (self.new ≡ self.old) }
+        ensures told { Gives bank.new result self.new (assigned (store_of bank.old self.old) id (tree_of bank.old body)) }
+        ensures stands { OnOk result (IsStore (store_of bank.new self.new)) }
+        ensures has { OnOk result (HasStore bank.new self.new) }
+        ensures grows { Grows bank.old bank.new }
+    {
+        match self.read(bank, body) {
+            Ok(_) => {
+                self.put_value(id, body)?;
+                Ok(())
+            }
+            Err(fault) => Err(fault),
+        }
+    }
+
+    /// A value for a variable that has none: the one change that gives values.
+    fn put_value(&mut self, id: u32, body: TermId) -> Result<(), NoMemory>
+        requires { value_at self.old id ≡ None }
+        ensures given { OnOk result (self.new ≡ one_given self.old id body) }
+        ensures kept { OnErr result (self.new ≡ self.old) }
+    {
+        let Ok(_) = self.values.insert(id, body) else {
+            return Err(NoMemory);
+        };
+        Ok(())
     }
 
     /// How many values were given. It takes no memory.

@@ -1,0 +1,120 @@
+use Rattle.std.proofs.Common.{sym, refl}
+use Rattle.std.proofs.Common.{subst as along}
+use Rattle.std.specs.Prelude.{map}
+use Rattle.lq_trees.specs.Tree.{Tree}
+use Rattle.lq_terms.specs.Terms.{text_of, tree_of}
+use Rattle.lq_evars.specs.Reading.{AllIn, trees_known}
+use Rattle.lq_evars.proofs.Rebuilt.{made_near, parts_at, prod_near, lam_near, let_near, app_near, entries_known, leaf_near}
+use Rattle.lq_evars.proofs.rebuilding.rebuilt.Goals as goal
+
+pub known_as-kind-requires-clause-has : goal.known_as-kind-requires-clause-has
+known_as-kind-requires-clause-has c = let parts = rw c.in-Prod.is at c.node.ensures.parts in parts.1.has
+
+pub known_as-kind-requires-clause-known : goal.known_as-kind-requires-clause-known
+known_as-kind-requires-clause-known c = (parts_at c.args.bank.now c.args.store.now c.args.known.now.entries c.args.term c.requires (Tree.Prod (text_of c.args.bank.now c.in-Prod.binder) (tree_of c.args.bank.now c.in-Prod.kind) (tree_of c.args.bank.now c.in-Prod.rest)) (rw c.in-Prod.is at c.node.ensures.tree)).0
+
+pub known_as-rest-requires-clause-has : goal.known_as-rest-requires-clause-has
+known_as-rest-requires-clause-has c = let parts = rw c.in-Prod.is at c.node.ensures.parts in parts.2.has
+
+pub known_as-rest-requires-clause-known : goal.known_as-rest-requires-clause-known
+known_as-rest-requires-clause-known c = (parts_at c.args.bank.now c.args.store.now c.args.known.now.entries c.args.term c.requires (Tree.Prod (text_of c.args.bank.now c.in-Prod.binder) (tree_of c.args.bank.now c.in-Prod.kind) (tree_of c.args.bank.now c.in-Prod.rest)) (rw c.in-Prod.is at c.node.ensures.tree)).1.0
+
+pub make-requires : goal.make-requires
+make-requires c = let parts = rw c.in-Prod.is at c.node.ensures.parts in (parts.0, c.known_as-kind.ensures.has, c.known_as-rest.ensures.has)
+
+pub returns-in-Prod-clause-near : goal.returns-in-Prod-clause-near
+returns-in-Prod-clause-near c =
+    made_near c.make.new.self c.make.result _ _ c.make.ensures.made
+    (prod_near c.args.bank.now c.args.store.now (tree_of c.args.bank.now c.args.term) (text_of c.args.bank.now c.in-Prod.binder) c.in-Prod.kind c.in-Prod.rest c.known_as-kind.result c.known_as-rest.result (rw c.in-Prod.is at c.node.ensures.tree) c.known_as-kind.ensures c.known_as-rest.ensures)
+
+pub known_as-kind-requires-in-Lam-clause-has : goal.known_as-kind-requires-in-Lam-clause-has
+known_as-kind-requires-in-Lam-clause-has c = let parts = rw c.in-Lam.is at c.node.ensures.parts in parts.1.has
+
+pub known_as-kind-requires-in-Lam-clause-known : goal.known_as-kind-requires-in-Lam-clause-known
+known_as-kind-requires-in-Lam-clause-known c = (parts_at c.args.bank.now c.args.store.now c.args.known.now.entries c.args.term c.requires (Tree.Lam (text_of c.args.bank.now c.in-Lam.binder) (tree_of c.args.bank.now c.in-Lam.kind) (tree_of c.args.bank.now c.in-Lam.rest)) (rw c.in-Lam.is at c.node.ensures.tree)).0
+
+pub known_as-rest-requires-in-Lam-clause-has : goal.known_as-rest-requires-in-Lam-clause-has
+known_as-rest-requires-in-Lam-clause-has c = let parts = rw c.in-Lam.is at c.node.ensures.parts in parts.2.has
+
+pub known_as-rest-requires-in-Lam-clause-known : goal.known_as-rest-requires-in-Lam-clause-known
+known_as-rest-requires-in-Lam-clause-known c = (parts_at c.args.bank.now c.args.store.now c.args.known.now.entries c.args.term c.requires (Tree.Lam (text_of c.args.bank.now c.in-Lam.binder) (tree_of c.args.bank.now c.in-Lam.kind) (tree_of c.args.bank.now c.in-Lam.rest)) (rw c.in-Lam.is at c.node.ensures.tree)).1.0
+
+pub make-requires-in-Lam : goal.make-requires-in-Lam
+make-requires-in-Lam c = let parts = rw c.in-Lam.is at c.node.ensures.parts in (parts.0, c.known_as-kind-in-Lam.ensures.has, c.known_as-rest-in-Lam.ensures.has)
+
+pub returns-in-Lam-clause-near : goal.returns-in-Lam-clause-near
+returns-in-Lam-clause-near c =
+    made_near c.make-in-Lam.new.self c.make-in-Lam.result _ _ c.make-in-Lam.ensures.made
+    (lam_near c.args.bank.now c.args.store.now (tree_of c.args.bank.now c.args.term) (text_of c.args.bank.now c.in-Lam.binder) c.in-Lam.kind c.in-Lam.rest c.known_as-kind-in-Lam.result c.known_as-rest-in-Lam.result (rw c.in-Lam.is at c.node.ensures.tree) c.known_as-kind-in-Lam.ensures c.known_as-rest-in-Lam.ensures)
+
+pub known_as-value-requires-clause-has : goal.known_as-value-requires-clause-has
+known_as-value-requires-clause-has c = let parts = rw c.in-Let.is at c.node.ensures.parts in parts.1.has
+
+pub known_as-value-requires-clause-known : goal.known_as-value-requires-clause-known
+known_as-value-requires-clause-known c = (parts_at c.args.bank.now c.args.store.now c.args.known.now.entries c.args.term c.requires (Tree.Let (text_of c.args.bank.now c.in-Let.binder) (tree_of c.args.bank.now c.in-Let.value) (tree_of c.args.bank.now c.in-Let.kind) (tree_of c.args.bank.now c.in-Let.rest)) (rw c.in-Let.is at c.node.ensures.tree)).0
+
+pub known_as-kind-requires-in-Let-clause-has : goal.known_as-kind-requires-in-Let-clause-has
+known_as-kind-requires-in-Let-clause-has c = let parts = rw c.in-Let.is at c.node.ensures.parts in parts.2.has
+
+pub known_as-kind-requires-in-Let-clause-known : goal.known_as-kind-requires-in-Let-clause-known
+known_as-kind-requires-in-Let-clause-known c = (parts_at c.args.bank.now c.args.store.now c.args.known.now.entries c.args.term c.requires (Tree.Let (text_of c.args.bank.now c.in-Let.binder) (tree_of c.args.bank.now c.in-Let.value) (tree_of c.args.bank.now c.in-Let.kind) (tree_of c.args.bank.now c.in-Let.rest)) (rw c.in-Let.is at c.node.ensures.tree)).1.0
+
+pub known_as-rest-requires-in-Let-clause-has : goal.known_as-rest-requires-in-Let-clause-has
+known_as-rest-requires-in-Let-clause-has c = let parts = rw c.in-Let.is at c.node.ensures.parts in parts.3.has
+
+pub known_as-rest-requires-in-Let-clause-known : goal.known_as-rest-requires-in-Let-clause-known
+known_as-rest-requires-in-Let-clause-known c = (parts_at c.args.bank.now c.args.store.now c.args.known.now.entries c.args.term c.requires (Tree.Let (text_of c.args.bank.now c.in-Let.binder) (tree_of c.args.bank.now c.in-Let.value) (tree_of c.args.bank.now c.in-Let.kind) (tree_of c.args.bank.now c.in-Let.rest)) (rw c.in-Let.is at c.node.ensures.tree)).1.1.0
+
+pub make-requires-in-Let : goal.make-requires-in-Let
+make-requires-in-Let c = let parts = rw c.in-Let.is at c.node.ensures.parts in (parts.0, c.known_as-value.ensures.has, c.known_as-kind-in-Let.ensures.has, c.known_as-rest-in-Let.ensures.has)
+
+pub returns-in-Let-clause-near : goal.returns-in-Let-clause-near
+returns-in-Let-clause-near c =
+    made_near c.make-in-Let.new.self c.make-in-Let.result _ _ c.make-in-Let.ensures.made
+    (let_near c.args.bank.now c.args.store.now (tree_of c.args.bank.now c.args.term) (text_of c.args.bank.now c.in-Let.binder) c.in-Let.value c.in-Let.kind c.in-Let.rest c.known_as-value.result c.known_as-kind-in-Let.result c.known_as-rest-in-Let.result (rw c.in-Let.is at c.node.ensures.tree) c.known_as-value.ensures c.known_as-kind-in-Let.ensures c.known_as-rest-in-Let.ensures)
+
+pub known_as-function-requires-clause-has : goal.known_as-function-requires-clause-has
+known_as-function-requires-clause-has c = let parts = rw c.in-App.is at c.node.ensures.parts in parts.0.has
+
+pub known_as-function-requires-clause-known : goal.known_as-function-requires-clause-known
+known_as-function-requires-clause-known c = (parts_at c.args.bank.now c.args.store.now c.args.known.now.entries c.args.term c.requires (Tree.App (tree_of c.args.bank.now c.in-App.function) (tree_of c.args.bank.now c.in-App.argument)) (rw c.in-App.is at c.node.ensures.tree)).0
+
+pub known_as-argument-requires-clause-has : goal.known_as-argument-requires-clause-has
+known_as-argument-requires-clause-has c = let parts = rw c.in-App.is at c.node.ensures.parts in parts.1.has
+
+pub known_as-argument-requires-clause-known : goal.known_as-argument-requires-clause-known
+known_as-argument-requires-clause-known c = (parts_at c.args.bank.now c.args.store.now c.args.known.now.entries c.args.term c.requires (Tree.App (tree_of c.args.bank.now c.in-App.function) (tree_of c.args.bank.now c.in-App.argument)) (rw c.in-App.is at c.node.ensures.tree)).1.0
+
+pub make-requires-in-App : goal.make-requires-in-App
+make-requires-in-App c = (c.known_as-function.ensures.has, c.known_as-argument.ensures.has)
+
+pub returns-in-App-clause-near : goal.returns-in-App-clause-near
+returns-in-App-clause-near c =
+    made_near c.make-in-App.new.self c.make-in-App.result _ _ c.make-in-App.ensures.made
+    (app_near c.args.bank.now c.args.store.now (tree_of c.args.bank.now c.args.term) c.in-App.function c.in-App.argument c.known_as-function.result c.known_as-argument.result (rw c.in-App.is at c.node.ensures.tree) c.known_as-function.ensures c.known_as-argument.ensures)
+
+pub each_known-requires-clause-known : goal.each_known-requires-clause-known
+each_known-requires-clause-known c =
+    along (λ ts. AllIn (map (tree_of c.args.bank.now) ts) (trees_known c.args.bank.now c.args.known.now.entries)) (sym c.terms.ensures)
+    (entries_known c.args.bank.now c.args.store.now c.args.known.now.entries c.args.term c.requires c.in-Evar.variable c.in-Evar.parts (rw c.in-Evar.is at c.node.ensures.tree))
+
+pub returns-in-Rel-clause-near : goal.returns-in-Rel-clause-near
+returns-in-Rel-clause-near c = leaf_near c.args.bank.now c.args.store.now c.args.term _ (rw c.in-Rel.is at c.node.ensures.tree) refl
+
+pub returns-in-Var-clause-near : goal.returns-in-Var-clause-near
+returns-in-Var-clause-near c = leaf_near c.args.bank.now c.args.store.now c.args.term _ (rw c.in-Var.is at c.node.ensures.tree) refl
+
+pub returns-in-Sort-clause-near : goal.returns-in-Sort-clause-near
+returns-in-Sort-clause-near c = leaf_near c.args.bank.now c.args.store.now c.args.term _ (rw c.in-Sort.is at c.node.ensures.tree) refl
+
+pub returns-in-Const-clause-near : goal.returns-in-Const-clause-near
+returns-in-Const-clause-near c = leaf_near c.args.bank.now c.args.store.now c.args.term _ (rw c.in-Const.is at c.node.ensures.tree) refl
+
+pub returns-in-Ind-clause-near : goal.returns-in-Ind-clause-near
+returns-in-Ind-clause-near c = leaf_near c.args.bank.now c.args.store.now c.args.term _ (rw c.in-Ind.is at c.node.ensures.tree) refl
+
+pub returns-in-Ctor-clause-near : goal.returns-in-Ctor-clause-near
+returns-in-Ctor-clause-near c = leaf_near c.args.bank.now c.args.store.now c.args.term _ (rw c.in-Ctor.is at c.node.ensures.tree) refl
+
+pub returns-in-Elim-clause-near : goal.returns-in-Elim-clause-near
+returns-in-Elim-clause-near c = leaf_near c.args.bank.now c.args.store.now c.args.term _ (rw c.in-Elim.is at c.node.ensures.tree) refl
