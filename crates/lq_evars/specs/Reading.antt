@@ -7,7 +7,8 @@ use Rattle.lq_trees.specs.Marks.{loose}
 use Rattle.lq_trees.specs.Size.{size}
 use Rattle.lq_terms.specs.declared.nodes.TermId.{TermId}
 use Rattle.lq_terms.specs.Terms.{Terms, HasTerm, tree_of, trees_by}
-use Rattle.lq_solving.specs.Stores.{Variable as TreeVariable, Assigned, Store as TreeStore, StoreFault as TreeFault, fill_values, read_values, read_too_large, read_too_deep}
+use Rattle.lq_solving.specs.Stores.{Variable as TreeVariable, Assigned, Store as TreeStore, StoreFault as TreeFault}
+use Rattle.lq_solving.specs.Stores.{fill_values, read_values, read_too_large, read_too_deep}
 use Rattle.lq_solving.specs.Kept.{IsOver, IsStore}
 use Rattle.lq_evars.specs.declared.store.StoreFault.{StoreFault}
 use Rattle.lq_evars.specs.declared.work.Work.{Work}

@@ -6,7 +6,7 @@ ghost use Rattle.lq_terms.specs.Terms.{HasTerm, tree_of, Grows};
 ghost use Rattle.lq_solving.specs.Kept.{IsOver, IsStore};
 ghost use Rattle.lq_evars.specs.Near.{IsNear};
 ghost use Rattle.lq_evars.specs.Places.{store_of, value_at, HasStore};
-ghost use Rattle.lq_evars.specs.Reading.{as_read, Asks, AreRead, Covers, Finds, Reading, Stepped, ItemDone, Reads, trees_known, with_term};
+ghost use Rattle.lq_evars.specs.Reading.{as_read, Asks, AreRead, Covers, Finds, Reading, ItemDone, Reads, trees_known, with_term};
 ghost use Rattle.lq_evars.specs.declared.work.Work.{Work};
 
 use crate::rebuilding::{is_known, known_as, note, rebuilt};
@@ -128,7 +128,7 @@ fn visit(
     term: TermId,
 ) -> Result<(), NoMemory>
     requires { Reading bank.old store.now (work.old.items ++ Work.Visit term ∷ []) known.old.entries }
-    ensures stepped { OnOk result (Stepped bank.old bank.new store.now (work.old.items ++ Work.Visit term ∷ []) work.new.items known.old.entries known.new.entries) }
+    ensures stepped { OnOk result (ItemDone bank.old bank.new store.now (Work.Visit term) work.old.items work.new.items known.old.entries known.new.entries) }
     ensures grows { Grows bank.old bank.new }
 {
     if is_known(known, term) {

@@ -39,6 +39,27 @@ pub(crate) fn known_as(
     }
 }
 
+/// What stands for two parts that are known.
+fn known_two(
+    bank: &Bank<'_>,
+    store: &Store,
+    known: &IndexMap<TermId, TermId>,
+    first: TermId,
+    second: TermId,
+) -> (TermId, TermId)
+    requires has_first { HasTerm bank.now first }
+    requires has_second { HasTerm bank.now second }
+    requires read { AreRead bank.now store.now known.now.entries }
+    requires first { IsIn (tree_of bank.now first) (trees_known bank.now known.now.entries) }
+    requires second { IsIn (tree_of bank.now second) (trees_known bank.now known.now.entries) }
+    ensures first { Reads bank.now store.now first result.0 }
+    ensures second { Reads bank.now store.now second result.1 }
+{
+    let left = known_as(bank, store, known, first);
+    let right = known_as(bank, store, known, second);
+    (left, right)
+}
+
 /// What stands for each of these parts.
 fn each_known(
     bank: &Bank<'_>,
@@ -124,26 +145,22 @@ pub(crate) fn rebuilt(
     match bank.node(term) {
         Node::Prod(binder, kind, rest) => {
             let binder = *binder;
-            let kind = known_as(bank, store, known, *kind);
-            let rest = known_as(bank, store, known, *rest);
+            let (kind, rest) = known_two(bank, store, known, *kind, *rest);
             bank.make(Node::Prod(binder, kind, rest))
         }
         Node::Lam(binder, kind, rest) => {
             let binder = *binder;
-            let kind = known_as(bank, store, known, *kind);
-            let rest = known_as(bank, store, known, *rest);
+            let (kind, rest) = known_two(bank, store, known, *kind, *rest);
             bank.make(Node::Lam(binder, kind, rest))
         }
         Node::Let(binder, value, kind, rest) => {
             let binder = *binder;
             let value = known_as(bank, store, known, *value);
-            let kind = known_as(bank, store, known, *kind);
-            let rest = known_as(bank, store, known, *rest);
+            let (kind, rest) = known_two(bank, store, known, *kind, *rest);
             bank.make(Node::Let(binder, value, kind, rest))
         }
         Node::App(function, argument) => {
-            let function = known_as(bank, store, known, *function);
-            let argument = known_as(bank, store, known, *argument);
+            let (function, argument) = known_two(bank, store, known, *function, *argument);
             bank.make(Node::App(function, argument))
         }
         Node::Evar(variable, parts) => {

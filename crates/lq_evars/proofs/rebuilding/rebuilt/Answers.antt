@@ -7,45 +7,57 @@ use Rattle.lq_evars.specs.Reading.{AllIn, trees_known}
 use Rattle.lq_evars.proofs.Rebuilt.{made_near, parts_at, prod_near, lam_near, let_near, app_near, entries_known, leaf_near}
 use Rattle.lq_evars.proofs.rebuilding.rebuilt.Goals as goal
 
-pub known_as-kind-requires-clause-has : goal.known_as-kind-requires-clause-has
-known_as-kind-requires-clause-has c = let parts = rw c.in-Prod.is at c.node.ensures.parts in parts.1.has
+pub known_two-requires-clause-has_first : goal.known_two-requires-clause-has_first
+known_two-requires-clause-has_first c = let parts = rw c.in-Prod.is at c.node.ensures.parts in parts.1.has
 
-pub known_as-kind-requires-clause-known : goal.known_as-kind-requires-clause-known
-known_as-kind-requires-clause-known c = (parts_at c.args.bank.now c.args.store.now c.args.known.now.entries c.args.term c.requires (Tree.Prod (text_of c.args.bank.now c.in-Prod.binder) (tree_of c.args.bank.now c.in-Prod.kind) (tree_of c.args.bank.now c.in-Prod.rest)) (rw c.in-Prod.is at c.node.ensures.tree)).0
+pub known_two-requires-clause-first : goal.known_two-requires-clause-first
+known_two-requires-clause-first c = (parts_at c.args.bank.now c.args.store.now c.args.known.now.entries c.args.term c.requires (Tree.Prod (text_of c.args.bank.now c.in-Prod.binder) (tree_of c.args.bank.now c.in-Prod.kind) (tree_of c.args.bank.now c.in-Prod.rest)) (rw c.in-Prod.is at c.node.ensures.tree)).0
 
-pub known_as-rest-requires-clause-has : goal.known_as-rest-requires-clause-has
-known_as-rest-requires-clause-has c = let parts = rw c.in-Prod.is at c.node.ensures.parts in parts.2.has
+pub known_two-requires-clause-has_second : goal.known_two-requires-clause-has_second
+known_two-requires-clause-has_second c = let parts = rw c.in-Prod.is at c.node.ensures.parts in parts.2.has
 
-pub known_as-rest-requires-clause-known : goal.known_as-rest-requires-clause-known
-known_as-rest-requires-clause-known c = (parts_at c.args.bank.now c.args.store.now c.args.known.now.entries c.args.term c.requires (Tree.Prod (text_of c.args.bank.now c.in-Prod.binder) (tree_of c.args.bank.now c.in-Prod.kind) (tree_of c.args.bank.now c.in-Prod.rest)) (rw c.in-Prod.is at c.node.ensures.tree)).1.0
+pub known_two-requires-clause-second : goal.known_two-requires-clause-second
+known_two-requires-clause-second c = (parts_at c.args.bank.now c.args.store.now c.args.known.now.entries c.args.term c.requires (Tree.Prod (text_of c.args.bank.now c.in-Prod.binder) (tree_of c.args.bank.now c.in-Prod.kind) (tree_of c.args.bank.now c.in-Prod.rest)) (rw c.in-Prod.is at c.node.ensures.tree)).1.0
 
 pub make-requires : goal.make-requires
-make-requires c = let parts = rw c.in-Prod.is at c.node.ensures.parts in (parts.0, c.known_as-kind.ensures.has, c.known_as-rest.ensures.has)
+make-requires c = let parts = rw c.in-Prod.is at c.node.ensures.parts in (parts.0, c.known_two.ensures.first.has, c.known_two.ensures.second.has)
 
 pub returns-in-Prod-clause-near : goal.returns-in-Prod-clause-near
 returns-in-Prod-clause-near c =
     made_near c.make.new.self c.make.result _ _ c.make.ensures.made
-    (prod_near c.args.bank.now c.args.store.now (tree_of c.args.bank.now c.args.term) (text_of c.args.bank.now c.in-Prod.binder) c.in-Prod.kind c.in-Prod.rest c.known_as-kind.result c.known_as-rest.result (rw c.in-Prod.is at c.node.ensures.tree) c.known_as-kind.ensures c.known_as-rest.ensures)
+    (prod_near c.args.bank.now c.args.store.now (tree_of c.args.bank.now c.args.term) (text_of c.args.bank.now c.in-Prod.binder) c.in-Prod.kind c.in-Prod.rest c.known_two.result.0 c.known_two.result.1 (rw c.in-Prod.is at c.node.ensures.tree) c.known_two.ensures.first c.known_two.ensures.second)
 
-pub known_as-kind-requires-in-Lam-clause-has : goal.known_as-kind-requires-in-Lam-clause-has
-known_as-kind-requires-in-Lam-clause-has c = let parts = rw c.in-Lam.is at c.node.ensures.parts in parts.1.has
+pub known_two-requires-in-Lam-clause-has_first : goal.known_two-requires-in-Lam-clause-has_first
+known_two-requires-in-Lam-clause-has_first c = let parts = rw c.in-Lam.is at c.node.ensures.parts in parts.1.has
 
-pub known_as-kind-requires-in-Lam-clause-known : goal.known_as-kind-requires-in-Lam-clause-known
-known_as-kind-requires-in-Lam-clause-known c = (parts_at c.args.bank.now c.args.store.now c.args.known.now.entries c.args.term c.requires (Tree.Lam (text_of c.args.bank.now c.in-Lam.binder) (tree_of c.args.bank.now c.in-Lam.kind) (tree_of c.args.bank.now c.in-Lam.rest)) (rw c.in-Lam.is at c.node.ensures.tree)).0
+pub known_two-requires-in-Lam-clause-first : goal.known_two-requires-in-Lam-clause-first
+known_two-requires-in-Lam-clause-first c = (parts_at c.args.bank.now c.args.store.now c.args.known.now.entries c.args.term c.requires (Tree.Lam (text_of c.args.bank.now c.in-Lam.binder) (tree_of c.args.bank.now c.in-Lam.kind) (tree_of c.args.bank.now c.in-Lam.rest)) (rw c.in-Lam.is at c.node.ensures.tree)).0
 
-pub known_as-rest-requires-in-Lam-clause-has : goal.known_as-rest-requires-in-Lam-clause-has
-known_as-rest-requires-in-Lam-clause-has c = let parts = rw c.in-Lam.is at c.node.ensures.parts in parts.2.has
+pub known_two-requires-in-Lam-clause-has_second : goal.known_two-requires-in-Lam-clause-has_second
+known_two-requires-in-Lam-clause-has_second c = let parts = rw c.in-Lam.is at c.node.ensures.parts in parts.2.has
 
-pub known_as-rest-requires-in-Lam-clause-known : goal.known_as-rest-requires-in-Lam-clause-known
-known_as-rest-requires-in-Lam-clause-known c = (parts_at c.args.bank.now c.args.store.now c.args.known.now.entries c.args.term c.requires (Tree.Lam (text_of c.args.bank.now c.in-Lam.binder) (tree_of c.args.bank.now c.in-Lam.kind) (tree_of c.args.bank.now c.in-Lam.rest)) (rw c.in-Lam.is at c.node.ensures.tree)).1.0
+pub known_two-requires-in-Lam-clause-second : goal.known_two-requires-in-Lam-clause-second
+known_two-requires-in-Lam-clause-second c = (parts_at c.args.bank.now c.args.store.now c.args.known.now.entries c.args.term c.requires (Tree.Lam (text_of c.args.bank.now c.in-Lam.binder) (tree_of c.args.bank.now c.in-Lam.kind) (tree_of c.args.bank.now c.in-Lam.rest)) (rw c.in-Lam.is at c.node.ensures.tree)).1.0
 
 pub make-requires-in-Lam : goal.make-requires-in-Lam
-make-requires-in-Lam c = let parts = rw c.in-Lam.is at c.node.ensures.parts in (parts.0, c.known_as-kind-in-Lam.ensures.has, c.known_as-rest-in-Lam.ensures.has)
+make-requires-in-Lam c = let parts = rw c.in-Lam.is at c.node.ensures.parts in (parts.0, c.known_two-in-Lam.ensures.first.has, c.known_two-in-Lam.ensures.second.has)
 
 pub returns-in-Lam-clause-near : goal.returns-in-Lam-clause-near
 returns-in-Lam-clause-near c =
     made_near c.make-in-Lam.new.self c.make-in-Lam.result _ _ c.make-in-Lam.ensures.made
-    (lam_near c.args.bank.now c.args.store.now (tree_of c.args.bank.now c.args.term) (text_of c.args.bank.now c.in-Lam.binder) c.in-Lam.kind c.in-Lam.rest c.known_as-kind-in-Lam.result c.known_as-rest-in-Lam.result (rw c.in-Lam.is at c.node.ensures.tree) c.known_as-kind-in-Lam.ensures c.known_as-rest-in-Lam.ensures)
+    (lam_near c.args.bank.now c.args.store.now (tree_of c.args.bank.now c.args.term) (text_of c.args.bank.now c.in-Lam.binder) c.in-Lam.kind c.in-Lam.rest c.known_two-in-Lam.result.0 c.known_two-in-Lam.result.1 (rw c.in-Lam.is at c.node.ensures.tree) c.known_two-in-Lam.ensures.first c.known_two-in-Lam.ensures.second)
+
+pub known_two-requires-in-Let-clause-has_first : goal.known_two-requires-in-Let-clause-has_first
+known_two-requires-in-Let-clause-has_first c = let parts = rw c.in-Let.is at c.node.ensures.parts in parts.2.has
+
+pub known_two-requires-in-Let-clause-first : goal.known_two-requires-in-Let-clause-first
+known_two-requires-in-Let-clause-first c = (parts_at c.args.bank.now c.args.store.now c.args.known.now.entries c.args.term c.requires (Tree.Let (text_of c.args.bank.now c.in-Let.binder) (tree_of c.args.bank.now c.in-Let.value) (tree_of c.args.bank.now c.in-Let.kind) (tree_of c.args.bank.now c.in-Let.rest)) (rw c.in-Let.is at c.node.ensures.tree)).1.0
+
+pub known_two-requires-in-Let-clause-has_second : goal.known_two-requires-in-Let-clause-has_second
+known_two-requires-in-Let-clause-has_second c = let parts = rw c.in-Let.is at c.node.ensures.parts in parts.3.has
+
+pub known_two-requires-in-Let-clause-second : goal.known_two-requires-in-Let-clause-second
+known_two-requires-in-Let-clause-second c = (parts_at c.args.bank.now c.args.store.now c.args.known.now.entries c.args.term c.requires (Tree.Let (text_of c.args.bank.now c.in-Let.binder) (tree_of c.args.bank.now c.in-Let.value) (tree_of c.args.bank.now c.in-Let.kind) (tree_of c.args.bank.now c.in-Let.rest)) (rw c.in-Let.is at c.node.ensures.tree)).1.1.0
 
 pub known_as-value-requires-clause-has : goal.known_as-value-requires-clause-has
 known_as-value-requires-clause-has c = let parts = rw c.in-Let.is at c.node.ensures.parts in parts.1.has
@@ -53,45 +65,33 @@ known_as-value-requires-clause-has c = let parts = rw c.in-Let.is at c.node.ensu
 pub known_as-value-requires-clause-known : goal.known_as-value-requires-clause-known
 known_as-value-requires-clause-known c = (parts_at c.args.bank.now c.args.store.now c.args.known.now.entries c.args.term c.requires (Tree.Let (text_of c.args.bank.now c.in-Let.binder) (tree_of c.args.bank.now c.in-Let.value) (tree_of c.args.bank.now c.in-Let.kind) (tree_of c.args.bank.now c.in-Let.rest)) (rw c.in-Let.is at c.node.ensures.tree)).0
 
-pub known_as-kind-requires-in-Let-clause-has : goal.known_as-kind-requires-in-Let-clause-has
-known_as-kind-requires-in-Let-clause-has c = let parts = rw c.in-Let.is at c.node.ensures.parts in parts.2.has
-
-pub known_as-kind-requires-in-Let-clause-known : goal.known_as-kind-requires-in-Let-clause-known
-known_as-kind-requires-in-Let-clause-known c = (parts_at c.args.bank.now c.args.store.now c.args.known.now.entries c.args.term c.requires (Tree.Let (text_of c.args.bank.now c.in-Let.binder) (tree_of c.args.bank.now c.in-Let.value) (tree_of c.args.bank.now c.in-Let.kind) (tree_of c.args.bank.now c.in-Let.rest)) (rw c.in-Let.is at c.node.ensures.tree)).1.0
-
-pub known_as-rest-requires-in-Let-clause-has : goal.known_as-rest-requires-in-Let-clause-has
-known_as-rest-requires-in-Let-clause-has c = let parts = rw c.in-Let.is at c.node.ensures.parts in parts.3.has
-
-pub known_as-rest-requires-in-Let-clause-known : goal.known_as-rest-requires-in-Let-clause-known
-known_as-rest-requires-in-Let-clause-known c = (parts_at c.args.bank.now c.args.store.now c.args.known.now.entries c.args.term c.requires (Tree.Let (text_of c.args.bank.now c.in-Let.binder) (tree_of c.args.bank.now c.in-Let.value) (tree_of c.args.bank.now c.in-Let.kind) (tree_of c.args.bank.now c.in-Let.rest)) (rw c.in-Let.is at c.node.ensures.tree)).1.1.0
-
 pub make-requires-in-Let : goal.make-requires-in-Let
-make-requires-in-Let c = let parts = rw c.in-Let.is at c.node.ensures.parts in (parts.0, c.known_as-value.ensures.has, c.known_as-kind-in-Let.ensures.has, c.known_as-rest-in-Let.ensures.has)
+make-requires-in-Let c = let parts = rw c.in-Let.is at c.node.ensures.parts in (parts.0, c.known_as-value.ensures.has, c.known_two-in-Let.ensures.first.has, c.known_two-in-Let.ensures.second.has)
 
 pub returns-in-Let-clause-near : goal.returns-in-Let-clause-near
 returns-in-Let-clause-near c =
     made_near c.make-in-Let.new.self c.make-in-Let.result _ _ c.make-in-Let.ensures.made
-    (let_near c.args.bank.now c.args.store.now (tree_of c.args.bank.now c.args.term) (text_of c.args.bank.now c.in-Let.binder) c.in-Let.value c.in-Let.kind c.in-Let.rest c.known_as-value.result c.known_as-kind-in-Let.result c.known_as-rest-in-Let.result (rw c.in-Let.is at c.node.ensures.tree) c.known_as-value.ensures c.known_as-kind-in-Let.ensures c.known_as-rest-in-Let.ensures)
+    (let_near c.args.bank.now c.args.store.now (tree_of c.args.bank.now c.args.term) (text_of c.args.bank.now c.in-Let.binder) c.in-Let.value c.in-Let.kind c.in-Let.rest c.known_as-value.result c.known_two-in-Let.result.0 c.known_two-in-Let.result.1 (rw c.in-Let.is at c.node.ensures.tree) c.known_as-value.ensures c.known_two-in-Let.ensures.first c.known_two-in-Let.ensures.second)
 
-pub known_as-function-requires-clause-has : goal.known_as-function-requires-clause-has
-known_as-function-requires-clause-has c = let parts = rw c.in-App.is at c.node.ensures.parts in parts.0.has
+pub known_two-requires-in-App-clause-has_first : goal.known_two-requires-in-App-clause-has_first
+known_two-requires-in-App-clause-has_first c = let parts = rw c.in-App.is at c.node.ensures.parts in parts.0.has
 
-pub known_as-function-requires-clause-known : goal.known_as-function-requires-clause-known
-known_as-function-requires-clause-known c = (parts_at c.args.bank.now c.args.store.now c.args.known.now.entries c.args.term c.requires (Tree.App (tree_of c.args.bank.now c.in-App.function) (tree_of c.args.bank.now c.in-App.argument)) (rw c.in-App.is at c.node.ensures.tree)).0
+pub known_two-requires-in-App-clause-first : goal.known_two-requires-in-App-clause-first
+known_two-requires-in-App-clause-first c = (parts_at c.args.bank.now c.args.store.now c.args.known.now.entries c.args.term c.requires (Tree.App (tree_of c.args.bank.now c.in-App.function) (tree_of c.args.bank.now c.in-App.argument)) (rw c.in-App.is at c.node.ensures.tree)).0
 
-pub known_as-argument-requires-clause-has : goal.known_as-argument-requires-clause-has
-known_as-argument-requires-clause-has c = let parts = rw c.in-App.is at c.node.ensures.parts in parts.1.has
+pub known_two-requires-in-App-clause-has_second : goal.known_two-requires-in-App-clause-has_second
+known_two-requires-in-App-clause-has_second c = let parts = rw c.in-App.is at c.node.ensures.parts in parts.1.has
 
-pub known_as-argument-requires-clause-known : goal.known_as-argument-requires-clause-known
-known_as-argument-requires-clause-known c = (parts_at c.args.bank.now c.args.store.now c.args.known.now.entries c.args.term c.requires (Tree.App (tree_of c.args.bank.now c.in-App.function) (tree_of c.args.bank.now c.in-App.argument)) (rw c.in-App.is at c.node.ensures.tree)).1.0
+pub known_two-requires-in-App-clause-second : goal.known_two-requires-in-App-clause-second
+known_two-requires-in-App-clause-second c = (parts_at c.args.bank.now c.args.store.now c.args.known.now.entries c.args.term c.requires (Tree.App (tree_of c.args.bank.now c.in-App.function) (tree_of c.args.bank.now c.in-App.argument)) (rw c.in-App.is at c.node.ensures.tree)).1.0
 
 pub make-requires-in-App : goal.make-requires-in-App
-make-requires-in-App c = (c.known_as-function.ensures.has, c.known_as-argument.ensures.has)
+make-requires-in-App c = (c.known_two-in-App.ensures.first.has, c.known_two-in-App.ensures.second.has)
 
 pub returns-in-App-clause-near : goal.returns-in-App-clause-near
 returns-in-App-clause-near c =
     made_near c.make-in-App.new.self c.make-in-App.result _ _ c.make-in-App.ensures.made
-    (app_near c.args.bank.now c.args.store.now (tree_of c.args.bank.now c.args.term) c.in-App.function c.in-App.argument c.known_as-function.result c.known_as-argument.result (rw c.in-App.is at c.node.ensures.tree) c.known_as-function.ensures c.known_as-argument.ensures)
+    (app_near c.args.bank.now c.args.store.now (tree_of c.args.bank.now c.args.term) c.in-App.function c.in-App.argument c.known_two-in-App.result.0 c.known_two-in-App.result.1 (rw c.in-App.is at c.node.ensures.tree) c.known_two-in-App.ensures.first c.known_two-in-App.ensures.second)
 
 pub each_known-requires-clause-known : goal.each_known-requires-clause-known
 each_known-requires-clause-known c =
