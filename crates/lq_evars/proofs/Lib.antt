@@ -14,3 +14,4 @@ pub mod Standing
 pub mod Stepping
 pub mod Asking
 pub mod Comparing
+pub mod Having
