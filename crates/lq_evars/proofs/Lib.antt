@@ -13,5 +13,4 @@ pub mod Given
 pub mod Standing
 pub mod Stepping
 pub mod Asking
-pub mod Comparing
 pub mod Having

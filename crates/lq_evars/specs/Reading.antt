@@ -1,10 +1,8 @@
 -- How a term is read: what is left to do, and what is known of the parts.
-use Rattle.std.specs.Prelude.{◌≡◌, ◌≤◌, ◌<◌, ◌+◌, ◌*◌, ◌⊎◌, ℕ, Bool, List, [], ◌∷◌, ◌++◌, map, Result, Ok, Err, Option, Some, None}
+use Rattle.std.specs.Prelude.{◌≡◌, ◌≤◌, ◌<◌, ◌+◌, ◌*◌, ◌⊎◌, ℕ, List, [], ◌∷◌, ◌++◌, map, Result, Ok, Err, Option, Some, None}
 use Rattle.std.specs.List.{AllByRecursion}
 use Rattle.lq_trees.specs.Tree.{Tree}
-use Rattle.lq_trees.specs.Index.{Within}
 use Rattle.lq_trees.specs.Marks.{loose}
-use Rattle.lq_trees.specs.Size.{size}
 use Rattle.lq_terms.specs.declared.nodes.TermId.{TermId}
 use Rattle.lq_terms.specs.Terms.{Terms, HasTerm, tree_of, trees_by}
 use Rattle.lq_solving.specs.Stores.{Variable as TreeVariable, Assigned, Store as TreeStore, StoreFault as TreeFault}
@@ -161,20 +159,6 @@ Answers bank (Err StoreFault.TooLarge) r = r ≡ Err read_too_large
 Answers bank (Err StoreFault.TooDeep) r = r ≡ Err read_too_deep
 Answers bank (Err StoreFault.Full) r = ⊥
 Answers bank (Err StoreFault.NoMemory) r = Unit {0}
-
--- a term of the bank whose variables are those of the store, without loose bound variables
-pub record Stands (bank : Terms) (vs : List TreeVariable) (t : TermId) : Type 0 where
-  pub has : HasTerm bank t
-  pub over : IsOver vs (tree_of bank t)
-  pub closed : Within 0 (tree_of bank t)
-
--- The answer of a comparison of two trees: what it is, or that one of them has more than 1,000,000 nodes. Memory may end at any time.
-abbrev pub Compares : Result Bool StoreFault → Bool → Tree → Tree → Type 0
-Compares (Ok b) same t u = b ≡ same
-Compares (Err StoreFault.TooLarge) same t u = (1000000 < size t) ⊎ (1000000 < size u)
-Compares (Err StoreFault.TooDeep) same t u = ⊥
-Compares (Err StoreFault.Full) same t u = ⊥
-Compares (Err StoreFault.NoMemory) same t u = Unit {0}
 
 -- The answer of a value that is given: the store then is the definition's, or the limit is passed that it says. Memory may end at any time.
 abbrev pub Gives : Terms → Result (Unit {0}) StoreFault → Places → Result TreeStore TreeFault → Type 0

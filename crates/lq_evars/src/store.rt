@@ -9,18 +9,18 @@ ghost use Rattle.lq_terms.specs.declared.nodes.TermId.{TermId};
 ghost use Rattle.lq_trees.specs.Index.{Within};
 ghost use Rattle.lq_terms.specs.Terms.{HasTerm, Grows};
 ghost use Rattle.lq_solving.specs.Stores.{Variable as TreeVariable, no_variables, count, value, named_variable, new_variable, with_kind};
-ghost use Rattle.lq_solving.specs.Stores.{values_of, assigned, read, read_fitting, reads_same};
+ghost use Rattle.lq_solving.specs.Stores.{values_of, assigned, read_fitting};
 ghost use Rattle.lq_solving.specs.Kept.{IsStore, IsVariable, IsValue, IsOver, StandsIn};
 ghost use Rattle.lq_evars.specs.declared.store.Variable.{Variable};
 ghost use Rattle.lq_evars.specs.Places.{Places, store_of, variable_of, value_at, number_of, HasStore, IsOwn, IsOwnOr, IsNewName, body_at};
 ghost use Rattle.lq_evars.specs.Places.{GivesMore, Makes, one_more, one_given, kind_changed};
-ghost use Rattle.lq_evars.specs.Reading.{Answers, Compares, Gives, Stands};
+ghost use Rattle.lq_evars.specs.Reading.{Answers, Gives};
 
 use crate::copying::copied_all;
 use crate::filling::is_over;
 use crate::reading::read_near;
 use indexmap::IndexMap;
-use lq_terms::{Bank, Bodies, Context, NameId, NoMemory, TermId, fits, same};
+use lq_terms::{Bank, Bodies, Context, NameId, NoMemory, TermId, fits};
 use lq_trees::Fit;
 use std::alloc::Global;
 use std::marker::Model;
@@ -282,28 +282,6 @@ impl Store {
             Fit::TooLarge => Err(StoreFault::TooLarge),
             Fit::TooDeep => Err(StoreFault::TooDeep),
         }
-    }
-
-    /// Whether two terms as they read are equal but for the names of binders. It is refused as too large exactly where one of them
-    /// as it reads has more than 1,000,000 nodes, however deep they are.
-    pub fn same(&self, bank: &mut Bank<'_>, left: TermId, right: TermId) -> Result<bool, StoreFault>
-        requires store { HasStore bank.old self.now }
-        requires kept { IsStore (store_of bank.old self.now) }
-        requires left { Stands bank.old (store_of bank.old self.now).variables left }
-        requires right { Stands bank.old (store_of bank.old self.now).variables right }
-        ensures answer { Compares result (reads_same (store_of bank.old self.now) (tree_of bank.old left) (tree_of bank.old right))
-            (read (store_of bank.old self.now) (tree_of bank.old left)) (read (store_of bank.old self.now) (tree_of bank.old right)) }
-        ensures grows { Grows bank.old bank.new }
-    {
-        let first = read_near(bank, self, left)?;
-        let second = read_near(bank, self, right)?;
-        if is_over(bank, first) {
-            return Err(StoreFault::TooLarge);
-        }
-        if is_over(bank, second) {
-            return Err(StoreFault::TooLarge);
-        }
-        Ok(same(bank, first, second))
     }
 
     /// A value for a variable that has none: a body that does not lead back to the variable, and as it reads holds hypotheses of

@@ -3,10 +3,10 @@
 ghost use Rattle.std.specs.Prelude.{◌≡◌, OnOk, OnErr};
 ghost use Rattle.lq_trees.specs.Index.{Within};
 ghost use Rattle.lq_terms.specs.Terms.{HasTerm, Grows, tree_of};
-ghost use Rattle.lq_solving.specs.Stores.{assigned, read, read_fitting, reads_same};
+ghost use Rattle.lq_solving.specs.Stores.{assigned, read_fitting};
 ghost use Rattle.lq_solving.specs.Kept.{IsStore, IsValue, IsOver};
 ghost use Rattle.lq_evars.specs.Places.{store_of, HasStore, one_given};
-ghost use Rattle.lq_evars.specs.Reading.{Answers, Compares, Gives, Stands};
+ghost use Rattle.lq_evars.specs.Reading.{Answers, Gives};
 
 use lq_evars::{Store, StoreFault};
 use lq_terms::{Bank, TermId};
@@ -22,24 +22,6 @@ pub fn read_through(store: &Store, bank: &mut Bank<'_>, term: TermId) -> Result<
     ensures grows { Grows bank.old bank.new }
 {
     store.read(bank, term)
-}
-
-/// Whether two terms as they read are equal but for the names of binders.
-pub fn is_same(
-    store: &Store,
-    bank: &mut Bank<'_>,
-    left: TermId,
-    right: TermId,
-) -> Result<bool, StoreFault>
-    requires store { HasStore bank.old store.now }
-    requires kept { IsStore (store_of bank.old store.now) }
-    requires left { Stands bank.old (store_of bank.old store.now).variables left }
-    requires right { Stands bank.old (store_of bank.old store.now).variables right }
-    ensures answer { Compares result (reads_same (store_of bank.old store.now) (tree_of bank.old left) (tree_of bank.old right))
-        (read (store_of bank.old store.now) (tree_of bank.old left)) (read (store_of bank.old store.now) (tree_of bank.old right)) }
-    ensures grows { Grows bank.old bank.new }
-{
-    store.same(bank, left, right)
 }
 
 /// A value for a variable that has none.
