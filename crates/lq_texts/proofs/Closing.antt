@@ -1,15 +1,15 @@
 -- Hypotheses in the place of bound variables, and closed again.
-use Rattle.std.proofs.Common.{◌≡◌, ℕ, zero, suc, ◌+◌, ◌-◌, ◌<◌, ◌≤◌, Bool, true, false, List, [], ◌∷◌, map, length, Option, Some, None, refl, sym, ap, ◌∙◌, subst as along, arith, ltb-true, ltb-false}
+use Rattle.std.proofs.Common.{◌≡◌, ℕ, zero, suc, ◌+◌, ◌-◌, ◌<◌, Bool, true, false, List, [], ◌∷◌, map, length, Some, refl, sym, ap, ◌∙◌, subst as along, arith, ltb-true, ltb-false}
 use Rattle.std.proofs.lemmas.Slice.Eq.{bytes_eq-Decides}
 use Rattle.std.specs.Prelude.{slice_get, nat_lt, ◌==◌, if◌then◌else◌}
 use Rattle.lq_trees.specs.Tree.{Name, Tree, Trees, same_name, none, more}
 use Rattle.lq_trees.specs.Tree.Tree.{Rel, Var, Sort, Prod, Lam, Let, App, Const, Ind, Ctor, Elim, Evar}
-use Rattle.lq_trees.specs.Change.{fill, filled, close_at, closed, closing, lift, lifted, replace_each}
+use Rattle.lq_trees.specs.Change.{fill, filled, close_at, closed, closing, lifted, replace_each}
 use Rattle.lq_trees.specs.Fresh.{is_listed}
 use Rattle.lq_trees.specs.Hypotheses.{HoldsOnly}
 use Rattle.lq_trees.specs.Index.{Within}
 use Rattle.lq_trees.specs.Same.{nameless, each_nameless, Same}
-use Rattle.lq_trees.proofs.FillLaws.{filled_below, filled_some, lifted_below, let_is}
+use Rattle.lq_trees.proofs.FillLaws.{filled_below, filled_some, lifted_below}
 
 -- hypotheses of those names
 abbrev pub as_vars : List Name → List Tree
@@ -93,7 +93,8 @@ rel_closed z ys d n h out = by (nat_lt n d) (nat_lt d n) refl refl
   where
     by : (a b : Bool) → nat_lt n d ≡ a → nat_lt d n ≡ b → close_at z d (filled (as_vars (z ∷ ys)) d n) ≡ filled (as_vars ys) (d + 1) n
     by true b e f = rel_below z ys d n (ltb-true n d e)
-    by false true e f = let k : n ≡ d + 1 + (n - (d + 1)) = omega (arith, ltb-true d n f) in rel_above z ys d n (n - (d + 1)) k (omega (arith, ltb-true d n f, h)) out
+    by false true e f = let k : n ≡ d + 1 + (n - (d + 1)) =
+        omega (arith, ltb-true d n f) in rel_above z ys d n (n - (d + 1)) k (omega (arith, ltb-true d n f, h)) out
     by false false e f =
         let same : d ≡ n = omega (arith, ltb-false n d e, ltb-false d n f) in
         along (λ m. close_at z d (filled (as_vars (z ∷ ys)) d m) ≡ filled (as_vars ys) (d + 1) m) same (rel_here z ys d)
@@ -102,7 +103,8 @@ rel_closed z ys d n h out = by (nat_lt n d) (nat_lt d n) refl refl
 
 module _ (z : Name) (ys xs : List Name) (out : is_listed ys z ≡ false) (other : is_listed xs z ≡ false) where
   -- the hypothesis of the nearest bound variable closed again
-  pub close_fill : (t : Tree) (d : ℕ) → NoEvar t → HoldsOnly xs t → Within (d + 1 + length ys) t → close_at z d (fill (as_vars (z ∷ ys)) d t) ≡ fill (as_vars ys) (d + 1) t
+  pub close_fill : (t : Tree) (d : ℕ) → NoEvar t → HoldsOnly xs t → Within (d + 1 + length ys) t →
+      close_at z d (fill (as_vars (z ∷ ys)) d t) ≡ fill (as_vars ys) (d + 1) t
   close_fill (Rel n) d v h w = rel_closed z ys d n (omega (arith, w)) out
   close_fill (Var x) d v h w = closed_other z d x (listed_apart xs x z h other)
   close_fill (Sort s) d v h w = refl
@@ -180,7 +182,8 @@ mutual
   close_each_nameless z (more t ts) d = let e = close_nameless z t d in let f = close_each_nameless z ts d in rw (e, f) refl
 
 -- what is found for the rest of a binder, closed
-pub rest_closed : (z : Name) (ys xs : List Name) (h B : Tree) → is_listed ys z ≡ false → is_listed xs z ≡ false → NoEvar B → HoldsOnly xs B → Within (1 + length ys) B →
+pub rest_closed : (z : Name) (ys xs : List Name) (h B : Tree) → is_listed ys z ≡ false → is_listed xs z ≡ false → NoEvar B → HoldsOnly xs B →
+    Within (1 + length ys) B →
     Same h (fill (as_vars (z ∷ ys)) 0 B) → Same (close_at z 0 h) (fill (as_vars ys) 1 B)
 rest_closed z ys xs h B out other v holds w e =
     close_nameless z h 0 ∙ ap (close_at z 0) e ∙ sym (close_nameless z (fill (as_vars (z ∷ ys)) 0 B) 0)

@@ -1,11 +1,9 @@
 -- Where elaboration of what is printed of a term succeeds, it gives the term back: the law.
-use Rattle.std.proofs.Common.{◌≡◌, ℕ, zero, suc, ◌+◌, ◌<◌, ◌≤◌, Bool, true, false, List, [], ◌∷◌, map, length, Option, Some, None, refl, sym, ap, ◌∙◌, subst as along, arith}
-use Rattle.std.specs.Prelude.{◌||◌}
+use Rattle.std.proofs.Common.{◌≡◌, Bool, true, false, List, [], ◌∷◌, map, Option, Some, None, refl, sym, ap, ◌∙◌, arith}
 use Rattle.std.specs.List.{AllByRecursion}
 use Rattle.std.proofs.lemmas.Slice.Eq.{bytes_eq-Decides}
 use Rattle.lq_trees.specs.Tree.{Name, Tree, Context, Hypothesis, value_of, same_name}
 use Rattle.lq_trees.specs.Tree.Tree.{Rel, Var, Sort, Prod, Lam, Let, App, Const, Ind, Ctor, Elim, Evar}
-use Rattle.lq_trees.specs.Ticks.{◌>>=◌}
 use Rattle.lq_trees.specs.Fresh.{is_listed}
 use Rattle.lq_trees.specs.Same.{nameless}
 use Rattle.lq_calculus.specs.Contraction.{hypothesis}
@@ -15,11 +13,11 @@ use Rattle.lq_ast.specs.Syntax.{Surface}
 use Rattle.lq_solving.specs.Stores.{Store}
 use Rattle.lq_solving.specs.Elaboration.{Site, Found, elaborate, elaborate_call}
 use Rattle.lq_texts.specs.Printing.{names_in, surface}
-use Rattle.lq_texts.specs.ReadBack.{IsPlain, IsPrintable, StandsIn, globals}
-use Rattle.lq_texts.specs.Elaborated.{Elaborates, GivesBack}
+use Rattle.lq_texts.specs.ReadBack.{IsPlain, globals}
+use Rattle.lq_texts.specs.Elaborated.{GivesBack}
 use Rattle.lq_texts.proofs.PrintedNames.{or_first, or_second}
 use Rattle.lq_texts.proofs.ReadsBackLaw.{closed_uses}
-use Rattle.lq_texts.proofs.Closing.{NoEvar, same_self, listed_apart, fill_none}
+use Rattle.lq_texts.proofs.Closing.{NoEvar, same_self, fill_none}
 use Rattle.lq_texts.proofs.Elaborating.{Around, gives_back}
 
 no_evar : (env : Env) (t : Tree) → IsPlain env t → NoEvar t
@@ -60,7 +58,8 @@ unfolding is_listed
 around_none g = record { inside = λ y e. absurd cc; outside = λ y e. e }
 
 -- what the call gives, elaboration gave
-call_gives : (e : Site) (s : Store) (u : Surface) (w : Option Tree) (f : Found) → Gives (elaborate_call e s u w) f → (r : Found) × Gives (elaborate e [] e.outer s u w) r × (f.term ≡ r.term)
+call_gives : (e : Site) (s : Store) (u : Surface) (w : Option Tree) (f : Found) → Gives (elaborate_call e s u w) f →
+    (r : Found) × Gives (elaborate e [] e.outer s u w) r × (f.term ≡ r.term)
 unfolding elaborate_call
 call_gives e s u w f h =
     let r = gives_bind _ _ f h in
@@ -72,12 +71,15 @@ call_gives e s u w f h =
 pub elaborates_back : GivesBack
 elaborates_back env g t u p st el =
     let e : Site = record { env = env; bound = el.bound; values = []; outer = g } in
-    let r = call_gives e el.store (surface env [] t) el.wanted el.found (done_gives el.budget (elaborate_call e el.store (surface env [] t) el.wanted) el.found el.left el.ends) in
+    let r = call_gives e el.store (surface env [] t) el.wanted el.found
+    (done_gives el.budget (elaborate_call e el.store (surface env [] t) el.wanted) el.found el.left el.ends) in
     let v = no_evar env t p.plain in
     let few = p.few in
     let back =
-    gives_back el.bound env g few.names t v st.declared st.known (each_listed (λ c. hypothesis g c ≡ None) (globals env t) (λ c l. none_there (globals env t) c l g st.apart)) few.held
-    [] [] [] g (around_none g) p.closed (λ i q. absurd (true_false (sym q ∙ closed_uses env t p.plain 0 p.closed i (omega arith)))) (each_listed (λ x. value_of [] x ≡ None) (names_in env t) (λ x l. refl))
+    gives_back el.bound env g few.names t v st.declared st.known
+    (each_listed (λ c. hypothesis g c ≡ None) (globals env t) (λ c l. none_there (globals env t) c l g st.apart)) few.held
+    [] [] [] g (around_none g) p.closed (λ i q. absurd (true_false (sym q ∙ closed_uses env t p.plain 0 p.closed i (omega arith))))
+    (each_listed (λ x. value_of [] x ≡ None) (names_in env t) (λ x l. refl))
     (omega (arith, few.few)) (omega (arith, st.small)) el.store el.wanted r.0 r.1 in
     ap nameless (sym el.term ∙ r.2) ∙ back ∙ ap nameless (fill_none t 0 v p.closed)
   where

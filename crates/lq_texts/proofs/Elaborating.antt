@@ -1,5 +1,5 @@
 -- Where elaboration of a printed term succeeds, it gives the term back.
-use Rattle.std.proofs.Common.{◌≡◌, ℕ, zero, suc, ◌+◌, ◌^◌, ◌<◌, ◌≤◌, max, Bool, true, false, List, [], ◌∷◌, ◌++◌, map, length, Option, Some, None, refl, sym, ap, ◌∙◌, subst as along, arith, inl, inr, length-append, eq-eqb}
+use Rattle.std.proofs.Common.{◌≡◌, ℕ, zero, suc, ◌+◌, ◌^◌, ◌<◌, Bool, true, false, List, [], ◌∷◌, ◌++◌, map, length, Option, Some, None, refl, sym, ap, ◌∙◌, subst as along, arith, inl, inr, length-append, eq-eqb}
 use Rattle.lq_trees.proofs.FillLaws.{filled_some}
 use Rattle.std.specs.Prelude.{◌⊎◌, ◌||◌, slice_get, if◌then◌else◌, codes}
 use Rattle.std.specs.List.{AllByRecursion}
@@ -8,130 +8,24 @@ use Rattle.lq_trees.specs.declared.Sort.{Sort as Universe}
 use Rattle.lq_trees.specs.Tree.{Name, Tree, Context, Hypothesis, value_of, same_name}
 use Rattle.lq_trees.specs.Tree.Tree.{Rel, Var, Sort, Prod, Lam, Let, App, Const, Ind, Ctor, Elim, Evar}
 use Rattle.lq_trees.specs.Change.{fill, close}
-use Rattle.lq_trees.specs.Fresh.{is_listed, fresh_of, fresh, under, under_let}
+use Rattle.lq_trees.specs.Fresh.{is_listed, fresh, under, under_let}
 use Rattle.lq_trees.specs.Hypotheses.{HoldsOnly}
 use Rattle.lq_trees.specs.Index.{Within}
 use Rattle.lq_trees.specs.Same.{nameless, Same}
 use Rattle.lq_trees.specs.Size.{depth}
 use Rattle.lq_calculus.specs.Contraction.{hypothesis}
 use Rattle.lq_calculus.specs.Declarations.{Env, lookup, eliminator_name}
-use Rattle.lq_calculus.proofs.ConvSound.{Gives, gives_bind, done_gives}
+use Rattle.lq_calculus.proofs.ConvSound.{Gives}
 use Rattle.lq_ast.specs.Syntax.{Surface}
 use Rattle.lq_solving.specs.Stores.{Store}
 use Rattle.lq_solving.specs.Elaboration.{Site, Found, bind, elaborate, elaborate_call}
 use Rattle.lq_solving.proofs.FreshLaws.{fresh_new}
-use Rattle.lq_texts.specs.Printing.{uses, names_in, own_name, printed_name, bound_name, sort_surface, surface, constructor_name}
-use Rattle.lq_texts.specs.ReadBack.{IsPlain, IsDeclared, HasFewNames, IsPrintable, StandsIn, globals}
-use Rattle.lq_texts.specs.Elaborated.{Elaborates, GivesBack}
-use Rattle.lq_texts.proofs.PrintedNames.{Held, held_left, held_right, held_listed, listed_append, append_listed, or_true, or_first, or_second}
-use Rattle.lq_texts.proofs.FreshNames.{fresh_is, fresh_apart}
-use Rattle.lq_texts.proofs.Closing.{as_vars, NoEvar, got_listed, listed_apart, same_self, fill_none, rest_closed}
+use Rattle.lq_texts.specs.Printing.{uses, names_in, printed_name, bound_name, sort_surface, surface, constructor_name}
+use Rattle.lq_texts.specs.ReadBack.{IsDeclared, globals}
+use Rattle.lq_texts.proofs.PrintedNames.{Held, held_left, held_right, or_true, or_first, or_second}
+use Rattle.lq_texts.proofs.Closing.{as_vars, NoEvar, same_self, rest_closed}
 use Rattle.lq_texts.proofs.ElaborationSteps.{product_gives, function_gives, let_gives, applied_gives, base_gives, level_gives, name_gives, bound_gives, hypothesis_gives, entry_gives, constant_gives, family_gives, constructor_gives, eliminator_gives}
-
--- ---- printed binders are apart
-
-own_some : (x : Name) → own_name x ≡ [] → ⊥
-unfolding own_name
-own_some [] e = absurd cc
-own_some (b ∷ bs) e = absurd cc
-
-append_some : (x ds : Name) → (x ≡ [] → ⊥) → x ++ ds ≡ [] → ⊥
-append_some [] ds h e = h refl
-append_some (b ∷ bs) ds h e = absurd cc
-
--- a binder that is printed as nothing isn't used, another one's name is apart
-abbrev Printed : Env → List Name → Tree → Name → Type 0
-Printed env bs body y = (y ≡ [] → uses 0 body ≡ false) × ((y ≡ [] → ⊥) → is_listed (names_in env body ++ bs) y ≡ false)
-
-printed_apart : (env : Env) (names bs : List Name) (x : Name) (body : Tree) → Held names (names_in env body) → length names + length bs < 2 ^ 64 → Printed env bs body (printed_name env bs x body)
-unfolding printed_name
-printed_apart env names bs x body held few = by (uses 0 body) refl
-  where
-    within : (y : Name) → is_listed (names_in env body ++ bs) y ≡ true → is_listed (names ++ bs) y ≡ true
-    within y e =
-        elim (listed_append (names_in env body) bs y e) [
-          | inl f ↦ append_listed names bs y (inl (held_listed names (names_in env body) y held f))
-          | inr f ↦ append_listed names bs y (inr f)
-        ]
-
-    short : length (names ++ bs) < 2 ^ 64
-    short = omega (arith, length-append names bs, few)
-
-    some : (fresh_of (names_in env body ++ bs) (own_name x) ≡ own_name x) ⊎ ((k : ℕ) × (k < 2 ^ 64) × (fresh_of (names_in env body ++ bs) (own_name x) ≡ own_name x ++ Rattle.std.specs.Prelude.decimal k)) →
-        fresh_of (names_in env body ++ bs) (own_name x) ≡ [] → ⊥
-    some (inl e) f = own_some x (sym e ∙ f)
-    some (inr e) f = append_some (own_name x) _ (own_some x) (sym e.2 ∙ f)
-
-    by : (b : Bool) → uses 0 body ≡ b →
-        (elim b as (λ _. Name) [ true ↦ fresh_of (names_in env body ++ bs) (own_name x) | false ↦ [] ] ≡ [] → uses 0 body ≡ false)
-        × ((elim b as (λ _. Name) [ true ↦ fresh_of (names_in env body ++ bs) (own_name x) | false ↦ [] ] ≡ [] → ⊥) → is_listed (names_in env body ++ bs) (elim b as (λ _. Name) [ true ↦ fresh_of (names_in env body ++ bs) (own_name x) | false ↦ [] ]) ≡ false)
-    by true e = (λ f. absurd (some (fresh_is (names_in env body ++ bs) (names ++ bs) (own_name x) within short) f), λ f. fresh_apart (names_in env body ++ bs) (names ++ bs) (own_name x) within short)
-    by false e = (λ f. e, λ f. absurd (f refl))
-
--- ---- what the binders round a term stand for
-
--- each bound variable that occurs is printed as a name that stands for the hypothesis in its place
-abbrev pub Binds : List Name → List Name → List (Name × Name) → Tree → Type 0
-Binds bs ys b t = (i : ℕ) → uses i t ≡ true → (y : Name) × (slice_get ys i ≡ Some y) × (value_of b (bound_name (slice_get bs i)) ≡ Some y)
-
--- no binder has one of those names
-abbrev pub Frees : List (Name × Name) → List Name → Type 0
-Frees b xs = AllByRecursion (λ x. value_of b x ≡ None) xs
-
-all_left : (P : Name → Type 0) (xs ys : List Name) → AllByRecursion P (xs ++ ys) → AllByRecursion P xs
-all_left P [] ys h = tt
-all_left P (x ∷ xs) ys h = (h.0, all_left P xs ys h.1)
-
-all_right : (P : Name → Type 0) (xs ys : List Name) → AllByRecursion P (xs ++ ys) → AllByRecursion P ys
-all_right P [] ys h = h
-all_right P (x ∷ xs) ys h = all_right P xs ys h.1
-
-not_left : (xs ys : List Name) (y : Name) → is_listed (xs ++ ys) y ≡ false → is_listed xs y ≡ false
-not_left xs ys y e = by (is_listed xs y) refl
-  where
-    true_false : true ≡ false → ⊥
-    true_false g = absurd cc
-
-    by : (b : Bool) → is_listed xs y ≡ b → is_listed xs y ≡ false
-    by true f = absurd (true_false (sym (append_listed xs ys y (inl f)) ∙ e))
-    by false f = f
-
-frees_more : (b : List (Name × Name)) (y z : Name) (xs : List Name) → is_listed xs y ≡ false → Frees b xs → Frees ((y, z) ∷ b) xs
-unfolding is_listed
-frees_more b y z [] e h = tt
-frees_more b y z (x ∷ xs) e h = let f = or_none (same_name x y) _ e in (rw f.0 h.0, frees_more b y z xs f.1 h.1)
-  where
-    or_none : (a c : Bool) → (a || c) ≡ false → (a ≡ false) × (c ≡ false)
-    or_none true c e = absurd cc
-    or_none false c e = (refl, e)
-
--- the name of a binder outside is not that of one inside
-outer_name : (xs bs : List Name) (c : ℕ) (cs : Name) (i : ℕ) → is_listed (xs ++ bs) (c ∷ cs) ≡ false → same_name (bound_name (slice_get bs i)) (c ∷ cs) ≡ false
-unfolding bound_name
-outer_name xs bs c cs i e = by (slice_get bs i) refl
-  where
-    by : (o : Option Name) → slice_get bs i ≡ o → same_name (bound_name o) (c ∷ cs) ≡ false
-    by None f = refl
-    by (Some m) f = listed_apart (xs ++ bs) m (c ∷ cs) (append_listed xs bs m (inr (got_listed bs i m f))) e
-
-under_binds : (env : Env) (y z : Name) (body : Tree) (bs ys : List Name) (b : List (Name × Name)) → Printed env bs body y →
-    ((i : ℕ) → uses (suc i) body ≡ true → (v : Name) × (slice_get ys i ≡ Some v) × (value_of b (bound_name (slice_get bs i)) ≡ Some v)) → Binds (y ∷ bs) (z ∷ ys) (bind y z b) body
-unfolding bind bound_name
-under_binds env [] z body bs ys b p h zero e = absurd (true_false (sym e ∙ p.0 refl))
-  where
-    true_false : true ≡ false → ⊥
-    true_false g = absurd cc
-under_binds env [] z body bs ys b p h (suc i) e = h i e
-under_binds env (c ∷ cs) z body bs ys b p h zero e = (z, refl, let s = same_self (c ∷ cs) in rw s refl)
-under_binds env (c ∷ cs) z body bs ys b p h (suc i) e =
-    let o = outer_name (names_in env body) bs c cs i (p.1 (λ f. absurd cc)) in
-    let r = h i e in
-    (r.0, r.1, rw o r.2)
-
-under_frees : (env : Env) (y z : Name) (body : Tree) (bs : List Name) (b : List (Name × Name)) → Printed env bs body y → Frees b (names_in env body) → Frees (bind y z b) (names_in env body)
-unfolding bind
-under_frees env [] z body bs b p h = h
-under_frees env (c ∷ cs) z body bs b p h = frees_more b (c ∷ cs) z (names_in env body) (not_left (names_in env body) bs (c ∷ cs) (p.1 (λ f. absurd cc))) h
+use Rattle.lq_texts.proofs.BinderNames.{printed_apart, Binds, Frees, all_left, all_right, under_binds, under_frees}
 
 -- ---- the contexts
 
@@ -141,7 +35,8 @@ named g = map (λ h. h.name) g
 more_named : (g : Context) (k : Hypothesis) (y : Name) → is_listed (named g) y ≡ true → is_listed (named (g ++ k ∷ [])) y ≡ true
 unfolding is_listed
 more_named [] k y e = absurd cc
-more_named (h ∷ g) k y e = elim (or_true (same_name h.name y) _ e) [ inl f ↦ or_first (same_name h.name y) _ f | inr f ↦ or_second (same_name h.name y) _ (more_named g k y f) ]
+more_named (h ∷ g) k y e =
+    elim (or_true (same_name h.name y) _ e) [ inl f ↦ or_first (same_name h.name y) _ f | inr f ↦ or_second (same_name h.name y) _ (more_named g k y f) ]
 
 last_named : (g : Context) (k : Hypothesis) → is_listed (named (g ++ k ∷ [])) k.name ≡ true
 unfolding is_listed
@@ -200,13 +95,15 @@ module _ (bound : ℕ) (env : Env) (outer : Context) (names : List Name) where
   abbrev pub NoClash : List Name → Type 0
   NoClash cs = AllByRecursion (λ c. hypothesis outer c ≡ None) cs
 
-  sort_gives : (b : List (Name × Name)) (g : Context) (s : Store) (w : Option Tree) (f : Found) (u : Universe) → Gives (elaborate site b g s (sort_surface u) w) f → f.term ≡ Sort u
+  sort_gives : (b : List (Name × Name)) (g : Context) (s : Store) (w : Option Tree) (f : Found) (u : Universe) →
+      Gives (elaborate site b g s (sort_surface u) w) f → f.term ≡ Sort u
   unfolding sort_surface
   sort_gives b g s w f Universe.Base h = base_gives site b g s w f h
   sort_gives b g s w f (Universe.Level i) h = level_gives site b g s w f i h
 
   -- a global is found by its name
-  global_gives : (b : List (Name × Name)) (g : Context) (s : Store) (w : Option Tree) (f : Found) (x : Name) → value_of b x ≡ None → hypothesis outer x ≡ None → Gives (elaborate site b g s (Rattle.lq_ast.specs.Syntax.Ident x) w) f →
+  global_gives : (b : List (Name × Name)) (g : Context) (s : Store) (w : Option Tree) (f : Found) (x : Name) → value_of b x ≡ None →
+      hypothesis outer x ≡ None → Gives (elaborate site b g s (Rattle.lq_ast.specs.Syntax.Ident x) w) f →
       (r : Found) × Gives (Rattle.lq_solving.specs.Elaboration.entry_found site s x (lookup env x)) r × (f.term ≡ r.term)
   global_gives b g s w f x free none h =
       let r = name_gives site b g s w f x h in
@@ -215,17 +112,21 @@ module _ (bound : ℕ) (env : Env) (outer : Context) (names : List Name) where
   -- what is said of a term under binders
   abbrev pub Back : Tree → Type 0
   Back t =
-      (bs ys : List Name) (b : List (Name × Name)) (g : Context) → Around (named outer) ys g → Within (length ys) t → Binds bs ys b t → Frees b (names_in env t) →
+      (bs ys : List Name) (b : List (Name × Name)) (g : Context) → Around (named outer) ys g → Within (length ys) t → Binds bs ys b t →
+      Frees b (names_in env t) →
       length names + length bs + depth t < 2 ^ 64 → length g + depth t < 2 ^ 64 →
       (s : Store) (w : Option Tree) (f : Found) → Gives (elaborate site b g s (surface env bs t) w) f → Same f.term (fill (as_vars ys) 0 t)
 
   -- the rest of a binder, closed
   rest_back : (x : Name) (B : Tree) → Back B → NoEvar B → HoldsOnly (named outer) B → Held names (names_in env B) →
       (bs ys : List Name) (b : List (Name × Name)) (g : Context) → Around (named outer) ys g → Within (length ys + 1) B →
-      ((i : ℕ) → uses (suc i) B ≡ true → (v : Name) × (slice_get ys i ≡ Some v) × (value_of b (bound_name (slice_get bs i)) ≡ Some v)) → Frees b (names_in env B) →
-      length names + length bs + 1 + depth B < 2 ^ 64 → length g + 1 + depth B < 2 ^ 64 → (v : Option Tree) (A : Tree) (s : Store) (w : Option Tree) (f : Found) →
+      ((i : ℕ) → uses (suc i) B ≡ true → (v : Name) × (slice_get ys i ≡ Some v) × (value_of b (bound_name (slice_get bs i)) ≡ Some v)) →
+      Frees b (names_in env B) →
+      length names + length bs + 1 + depth B < 2 ^ 64 → length g + 1 + depth B < 2 ^ 64 →
+      (v : Option Tree) (A : Tree) (s : Store) (w : Option Tree) (f : Found) →
       (let y : Name = printed_name env bs x B in
-      Gives (elaborate site (bind y (fresh g y) b) (g ++ (record { name = fresh g y; body = v; kind = A } ∷ [])) s (surface env (y ∷ bs) B) w) f → Same (close (fresh g y) f.term) (fill (as_vars ys) 1 B))
+      Gives (elaborate site (bind y (fresh g y) b) (g ++ (record { name = fresh g y; body = v; kind = A } ∷ [])) s (surface env (y ∷ bs) B) w) f →
+      Same (close (fresh g y) f.term) (fill (as_vars ys) 1 B))
   rest_back x B back v h n bs ys b g ar wi bd fr few small body A s w f k =
       let y : Name = printed_name env bs x B in
       let z : Name = fresh g y in
@@ -235,9 +136,11 @@ module _ (bound : ℕ) (env : Env) (outer : Context) (names : List Name) where
       let one : length ys + 1 ≡ suc (length ys) = omega arith in
       let two : length ys + 1 ≡ 1 + length ys = omega arith in
       let o =
-      back (y ∷ bs) (z ∷ ys) (bind y z b) (g ++ (hyp ∷ [])) (around_more (named outer) ys g hyp ar) (along (λ m. Within m B) one wi) (under_binds env y z B bs ys b p bd) (under_frees env y z B bs b p fr)
+      back (y ∷ bs) (z ∷ ys) (bind y z b) (g ++ (hyp ∷ [])) (around_more (named outer) ys g hyp ar) (along (λ m. Within m B) one wi)
+      (under_binds env y z B bs ys b p bd) (under_frees env y z B bs b p fr)
       (omega (arith, few)) (omega (arith, small, length-append g (hyp ∷ []))) s w f k in
-      rest_closed z ys (named outer) f.term B (not_listed ys (named g) z ar.inside out) (not_listed (named outer) (named g) z ar.outside out) v h (along (λ m. Within m B) two wi) o
+      rest_closed z ys (named outer) f.term B (not_listed ys (named g) z ar.inside out) (not_listed (named outer) (named g) z ar.outside out) v h
+      (along (λ m. Within m B) two wi) o
 
   pub gives_back : (t : Tree) → NoEvar t → IsDeclared env t → HoldsOnly (named outer) t → NoClash (globals env t) → Held names (names_in env t) → Back t
   unfolding surface names_in uses globals under under_let
@@ -245,7 +148,8 @@ module _ (bound : ℕ) (env : Env) (outer : Context) (names : List Name) where
       let r = name_gives site b g s w f _ k in
       let y = bd i (eq-eqb i i refl) in
       let one : Rattle.std.specs.Prelude.◌-◌ i 0 ≡ i = omega arith in
-      ap nameless (r.2 ∙ bound_gives site refl b g s _ r.0 y.0 y.2 r.1 ∙ sym (filled_some (as_vars ys) 0 i (Var y.0) (omega arith) (ap (slice_get (as_vars ys)) one ∙ got_var ys i y.0 y.1)))
+      ap nameless (r.2 ∙ bound_gives site refl b g s _ r.0 y.0 y.2 r.1
+      ∙ sym (filled_some (as_vars ys) 0 i (Var y.0) (omega arith) (ap (slice_get (as_vars ys)) one ∙ got_var ys i y.0 y.1)))
   gives_back (Var x) v d h c n bs ys b g ar wi bd fr few small s w f k =
       let r = name_gives site b g s w f x k in
       ap nameless (r.2 ∙ hypothesis_gives site refl b g s x r.0 fr.0 h r.1)
@@ -265,30 +169,36 @@ module _ (bound : ℕ) (env : Env) (outer : Context) (names : List Name) where
   gives_back (App t a) v d h c n bs ys b g ar wi bd fr few small s w f k =
       let r = applied_gives site b g s w f _ _ k in
       let e =
-      gives_back t v.0 d.0 h.0 (all_left _ (globals env t) (globals env a) c) (held_left names (names_in env t) (names_in env a) n) bs ys b g ar wi.0 (λ i q. bd i (or_first (uses i t) _ q))
+      gives_back t v.0 d.0 h.0 (all_left _ (globals env t) (globals env a) c) (held_left names (names_in env t) (names_in env a) n) bs ys b g ar wi.0
+      (λ i q. bd i (or_first (uses i t) _ q))
       (all_left _ (names_in env t) (names_in env a) fr) (omega (arith, few)) (omega (arith, small)) s None r.0 r.1 in
       let o =
-      gives_back a v.1 d.1 h.1 (all_right _ (globals env t) (globals env a) c) (held_right names (names_in env t) (names_in env a) n) bs ys b g ar wi.1 (λ i q. bd i (or_second (uses i t) _ q))
+      gives_back a v.1 d.1 h.1 (all_right _ (globals env t) (globals env a) c) (held_right names (names_in env t) (names_in env a) n) bs ys b g ar wi.1
+      (λ i q. bd i (or_second (uses i t) _ q))
       (all_right _ (names_in env t) (names_in env a) fr) (omega (arith, few)) (omega (arith, small)) r.0.store r.2 r.3 r.4 in
       ap nameless r.5 ∙ applied_same _ _ _ _ e o
   gives_back (Prod x A B) v d h c n bs ys b g ar wi bd fr few small s w f k =
       let r = product_gives site b g s w f (printed_name env bs x B) _ _ k in
       let e =
-      gives_back A v.0 d.0 h.0 (all_left _ (globals env A) (globals env B) c) (held_left names (names_in env A) (names_in env B) n) bs ys b g ar wi.0 (λ i q. bd i (or_first (uses i A) _ q))
+      gives_back A v.0 d.0 h.0 (all_left _ (globals env A) (globals env B) c) (held_left names (names_in env A) (names_in env B) n) bs ys b g ar wi.0
+      (λ i q. bd i (or_first (uses i A) _ q))
       (all_left _ (names_in env A) (names_in env B) fr) (omega (arith, few)) (omega (arith, small)) s None r.0 r.1 in
       let held = held_right names (names_in env A) (names_in env B) n in
       let o =
-      rest_back x B (gives_back B v.1 d.1 h.1 (all_right _ (globals env A) (globals env B) c) held) v.1 h.1 held bs ys b g ar wi.1 (λ i q. bd i (or_second (uses i A) _ q))
+      rest_back x B (gives_back B v.1 d.1 h.1 (all_right _ (globals env A) (globals env B) c) held) v.1 h.1 held bs ys b g ar wi.1
+      (λ i q. bd i (or_second (uses i A) _ q))
       (all_right _ (names_in env A) (names_in env B) fr) (omega (arith, few)) (omega (arith, small)) None r.0.term r.0.store None r.2 r.3 in
       ap nameless r.4 ∙ product_same (printed_name env bs x B) x _ _ _ _ e o
   gives_back (Lam x A B) v d h c n bs ys b g ar wi bd fr few small s w f k =
       let r = function_gives site b g s w f (printed_name env bs x B) _ _ k in
       let e =
-      gives_back A v.0 d.0 h.0 (all_left _ (globals env A) (globals env B) c) (held_left names (names_in env A) (names_in env B) n) bs ys b g ar wi.0 (λ i q. bd i (or_first (uses i A) _ q))
+      gives_back A v.0 d.0 h.0 (all_left _ (globals env A) (globals env B) c) (held_left names (names_in env A) (names_in env B) n) bs ys b g ar wi.0
+      (λ i q. bd i (or_first (uses i A) _ q))
       (all_left _ (names_in env A) (names_in env B) fr) (omega (arith, few)) (omega (arith, small)) s None r.0 r.1 in
       let held = held_right names (names_in env A) (names_in env B) n in
       let o =
-      rest_back x B (gives_back B v.1 d.1 h.1 (all_right _ (globals env A) (globals env B) c) held) v.1 h.1 held bs ys b g ar wi.1 (λ i q. bd i (or_second (uses i A) _ q))
+      rest_back x B (gives_back B v.1 d.1 h.1 (all_right _ (globals env A) (globals env B) c) held) v.1 h.1 held bs ys b g ar wi.1
+      (λ i q. bd i (or_second (uses i A) _ q))
       (all_right _ (names_in env A) (names_in env B) fr) (omega (arith, few)) (omega (arith, small)) None r.0.term r.2 r.3 r.4 r.5 in
       ap nameless r.6 ∙ function_same (printed_name env bs x B) x _ _ _ _ e o
   gives_back (Let x u A B) v d h c n bs ys b g ar wi bd fr few small s w f k =
@@ -297,14 +207,20 @@ module _ (bound : ℕ) (env : Env) (outer : Context) (names : List Name) where
       let names_front = held_left names (names_in env u ++ names_in env A) (names_in env B) n in
       let free_front = all_left _ (names_in env u ++ names_in env A) (names_in env B) fr in
       let e =
-      gives_back A v.1 d.1 h.1 (all_right _ (globals env u) (globals env A) front) (held_right names (names_in env u) (names_in env A) names_front) bs ys b g ar wi.1
-      (λ i q. bd i (or_first (uses i u || uses i A) _ (or_second (uses i u) _ q))) (all_right _ (names_in env u) (names_in env A) free_front) (omega (arith, few)) (omega (arith, small)) s None r.0 r.1 in
+      gives_back A v.1 d.1 h.1 (all_right _ (globals env u) (globals env A) front) (held_right names (names_in env u) (names_in env A) names_front)
+      bs ys b g ar wi.1
+      (λ i q. bd i (or_first (uses i u || uses i A) _ (or_second (uses i u) _ q))) (all_right _ (names_in env u) (names_in env A) free_front)
+      (omega (arith, few)) (omega (arith, small)) s None r.0 r.1 in
       let l =
-      gives_back u v.0 d.0 h.0 (all_left _ (globals env u) (globals env A) front) (held_left names (names_in env u) (names_in env A) names_front) bs ys b g ar wi.0
-      (λ i q. bd i (or_first (uses i u || uses i A) _ (or_first (uses i u) _ q))) (all_left _ (names_in env u) (names_in env A) free_front) (omega (arith, few)) (omega (arith, small)) r.0.store (Some r.0.term) r.2 r.3 in
+      gives_back u v.0 d.0 h.0 (all_left _ (globals env u) (globals env A) front) (held_left names (names_in env u) (names_in env A) names_front)
+      bs ys b g ar wi.0
+      (λ i q. bd i (or_first (uses i u || uses i A) _ (or_first (uses i u) _ q))) (all_left _ (names_in env u) (names_in env A) free_front)
+      (omega (arith, few)) (omega (arith, small)) r.0.store (Some r.0.term) r.2 r.3 in
       let held = held_right names (names_in env u ++ names_in env A) (names_in env B) n in
       let o =
-      rest_back x B (gives_back B v.2 d.2 h.2 (all_right _ (globals env u ++ globals env A) (globals env B) c) held) v.2 h.2 held bs ys b g ar wi.2 (λ i q. bd i (or_second (uses i u || uses i A) _ q))
-      (all_right _ (names_in env u ++ names_in env A) (names_in env B) fr) (omega (arith, few)) (omega (arith, small)) (Some r.2.term) r.0.term r.2.store None r.4 r.5 in
+      rest_back x B (gives_back B v.2 d.2 h.2 (all_right _ (globals env u ++ globals env A) (globals env B) c) held) v.2 h.2 held bs ys b g ar wi.2
+      (λ i q. bd i (or_second (uses i u || uses i A) _ q))
+      (all_right _ (names_in env u ++ names_in env A) (names_in env B) fr) (omega (arith, few)) (omega (arith, small)) (Some r.2.term)
+      r.0.term r.2.store None r.4 r.5 in
       ap nameless r.6 ∙ let_same (printed_name env bs x B) x _ _ _ _ _ _ l e o
   gives_back (Evar j ts) v d h c n bs ys b g ar wi bd fr few small s w f k = absurd v

@@ -6,15 +6,15 @@ use Rattle.std.proofs.lemmas.Slice.Eq.{bytes_eq-Decides}
 use Rattle.lq_trees.specs.Tree.{Name, Tree, Context, Hypothesis, value_of, same_name}
 use Rattle.lq_trees.specs.Tree.Tree.{Var, Sort, Prod, Lam, Let, App, Const, Ind, Ctor, Elim}
 use Rattle.lq_trees.specs.Change.{close}
-use Rattle.lq_trees.specs.Ticks.{gives, fails, cut, tick, ◌>>=◌}
+use Rattle.lq_trees.specs.Ticks.{fails}
 use Rattle.lq_trees.specs.Fresh.{is_listed, fresh, under, under_let}
 use Rattle.lq_calculus.specs.Contraction.{hypothesis}
-use Rattle.lq_calculus.specs.Declarations.{Env, Entry, constant, family, arity, constructor, eliminator, lookup}
+use Rattle.lq_calculus.specs.Declarations.{Entry, constant, family, arity, constructor, eliminator, lookup}
 use Rattle.lq_calculus.proofs.ConvSound.{Gives, gives_bind}
-use Rattle.lq_ast.specs.Syntax.{Surface, Forall, Fun, LetIn, Arrow, Applied, Ident, PropSort, TypeSort, Written}
+use Rattle.lq_ast.specs.Syntax.{Surface, Fun, LetIn, Applied, Ident, PropSort, TypeSort, Written}
 use Rattle.lq_solving.specs.Stores.{Store}
 use Rattle.lq_solving.specs.ElabFaults.{Elab, unknown}
-use Rattle.lq_solving.specs.Elaboration.{Site, Found, found, against, function_found, entry_found, hypothesis_or, outer_found, name_found, bind, elaborate, domain_found}
+use Rattle.lq_solving.specs.Elaboration.{Site, Found, against, function_found, entry_found, hypothesis_or, outer_found, name_found, bind, elaborate, domain_found}
 use Rattle.lq_texts.specs.Printing.{product_surface}
 use Rattle.lq_texts.specs.ReadBack.{IsConstant, IsFamily}
 
@@ -65,7 +65,8 @@ module _ (e : Site) (b : List (Name × Name)) (g : Context) (s : Store) (w : Opt
 
   pub let_gives : (y : Name) (A v t : Surface) → Gives (elaborate e b g s (LetIn y (Written A) v t) w) r →
       (f : Found) × Gives (elaborate e b g s A None) f × (u : Found) × Gives (elaborate e b g f.store v (Some f.term)) u × (k : Found)
-      × Gives (elaborate e (bind y (fresh g y) b) (under_let g (fresh g y) u.term f.term) u.store t None) k × (r.term ≡ Let y u.term f.term (close (fresh g y) k.term))
+      × Gives (elaborate e (bind y (fresh g y) b) (under_let g (fresh g y) u.term f.term) u.store t None) k ×
+      (r.term ≡ Let y u.term f.term (close (fresh g y) k.term))
   unfolding elaborate
   let_gives y A v t h =
       let f = gives_bind _ _ r h in
@@ -75,7 +76,8 @@ module _ (e : Site) (b : List (Name × Name)) (g : Context) (s : Store) (w : Opt
       (f.0, f.1, u.0, u.1, k.0, k.1, against_term e g w _ r k.2)
 
   pub applied_gives : (t a : Surface) → Gives (elaborate e b g s (Applied t a) w) r →
-      (f : Found) × Gives (elaborate e b g s t None) f × (v : Option Tree) × (k : Found) × Gives (elaborate e b g f.store a v) k × (r.term ≡ App f.term k.term)
+      (f : Found) × Gives (elaborate e b g s t None) f × (v : Option Tree) × (k : Found) × Gives (elaborate e b g f.store a v) k ×
+      (r.term ≡ App f.term k.term)
   unfolding elaborate
   applied_gives t a h =
       let f = gives_bind _ _ r h in
@@ -103,7 +105,8 @@ unfolding hypothesis
 hypothesis_named [] y h e = absurd cc
 hypothesis_named (k ∷ g) y h e = by (same_name k.name y) refl e (hypothesis_named g y h)
   where
-    by : (b : Bool) → same_name k.name y ≡ b → elim b as (λ _. Option Hypothesis) [ true ↦ Some k | false ↦ hypothesis g y ] ≡ Some h → (hypothesis g y ≡ Some h → h.name ≡ y) → h.name ≡ y
+    by : (b : Bool) → same_name k.name y ≡ b → elim b as (λ _. Option Hypothesis) [ true ↦ Some k | false ↦ hypothesis g y ] ≡ Some h →
+        (hypothesis g y ≡ Some h → h.name ≡ y) → h.name ≡ y
     by true f e others = let same : k ≡ h = cc in ap (λ (x : Hypothesis). x.name) (sym same) ∙ (bytes_eq-Decides k.name y).0 f
     by false f e others = others e
 
@@ -113,18 +116,21 @@ unfolding hypothesis is_listed
 hypothesis_there [] y e = absurd cc
 hypothesis_there (k ∷ g) y e = by (same_name k.name y) e (hypothesis_there g y)
   where
-    by : (b : Bool) → Rattle.std.specs.Prelude.◌||◌ b (is_listed (map (λ h. h.name) g) y) ≡ true → (is_listed (map (λ h. h.name) g) y ≡ true → (h : Hypothesis) × (hypothesis g y ≡ Some h)) →
+    by : (b : Bool) → Rattle.std.specs.Prelude.◌||◌ b (is_listed (map (λ h. h.name) g) y) ≡ true →
+        (is_listed (map (λ h. h.name) g) y ≡ true → (h : Hypothesis) × (hypothesis g y ≡ Some h)) →
         (h : Hypothesis) × (elim b as (λ _. Option Hypothesis) [ true ↦ Some k | false ↦ hypothesis g y ] ≡ Some h)
     by true e others = (k, refl)
     by false e others = others e
 
 -- a hypothesis or nothing
-or_fails : (s : Store) (g : Context) (y x : Name) (o : Option Hypothesis) (f : Found) → hypothesis g y ≡ o → Gives (hypothesis_or s o (fails (unknown x))) f → f.term ≡ Var y
+or_fails : (s : Store) (g : Context) (y x : Name) (o : Option Hypothesis) (f : Found) → hypothesis g y ≡ o → Gives (hypothesis_or s o (fails (unknown x))) f →
+    f.term ≡ Var y
 unfolding hypothesis_or
 or_fails s g y x (Some h) f e k = ap (λ (r : Found). r.term) (sym k) ∙ ap Var (hypothesis_named g y h e)
 or_fails s g y x None f e k = absurd k
 
-or_hypothesis : (s : Store) (g : Context) (y : Name) (h : Hypothesis) (other : Elab Found) (f : Found) → hypothesis g y ≡ Some h → Gives (hypothesis_or s (hypothesis g y) other) f → f.term ≡ Var y
+or_hypothesis : (s : Store) (g : Context) (y : Name) (h : Hypothesis) (other : Elab Found) (f : Found) → hypothesis g y ≡ Some h →
+    Gives (hypothesis_or s (hypothesis g y) other) f → f.term ≡ Var y
 unfolding hypothesis_or
 or_hypothesis s g y h other f e k =
     let m = along (λ o. Gives (hypothesis_or s o other) f) e k in ap (λ (r : Found). r.term) (sym m) ∙ ap Var (hypothesis_named g y h e)
@@ -135,17 +141,22 @@ module _ (e : Site) (no_values : e.values ≡ []) (b : List (Name × Name)) (g :
   unfolding name_found
   bound_gives y h k =
       or_fails s g y x (hypothesis g y) f refl
-      (along (λ o. Gives (elim o as (λ _. Elab Found) [ Some y ↦ hypothesis_or s (hypothesis g y) (fails (unknown x)) | None ↦ outer_found e s x (value_of e.values x) ]) f) h k)
+      (along (λ o. Gives
+      (elim o as (λ _. Elab Found) [ Some y ↦ hypothesis_or s (hypothesis g y) (fails (unknown x)) | None ↦ outer_found e s x (value_of e.values x) ]) f)
+      h k)
 
   outer_gives : value_of b x ≡ None → Gives (name_found e b g s x) f → Gives (hypothesis_or s (hypothesis e.outer x) (entry_found e s x (lookup e.env x))) f
   unfolding name_found outer_found
   outer_gives h k =
-      let m = along (λ o. Gives (elim o as (λ _. Elab Found) [ Some y ↦ hypothesis_or s (hypothesis g y) (fails (unknown x)) | None ↦ outer_found e s x (value_of e.values x) ]) f) h k in
+      let m = along (λ o. Gives
+      (elim o as (λ _. Elab Found) [ Some y ↦ hypothesis_or s (hypothesis g y) (fails (unknown x)) | None ↦ outer_found e s x (value_of e.values x) ]) f)
+      h k in
       along (λ vs. Gives (outer_found e s x (value_of vs x)) f) no_values m
 
   -- a hypothesis of the context
   pub hypothesis_gives : value_of b x ≡ None → is_listed (map (λ h. h.name) e.outer) x ≡ true → Gives (name_found e b g s x) f → f.term ≡ Var x
-  hypothesis_gives h there k = let y = hypothesis_there e.outer x there in or_hypothesis s e.outer x y.0 (entry_found e s x (lookup e.env x)) f y.1 (outer_gives h k)
+  hypothesis_gives h there k = let y =
+      hypothesis_there e.outer x there in or_hypothesis s e.outer x y.0 (entry_found e s x (lookup e.env x)) f y.1 (outer_gives h k)
 
   -- a global
   pub entry_gives : value_of b x ≡ None → hypothesis e.outer x ≡ None → Gives (name_found e b g s x) f → Gives (entry_found e s x (lookup e.env x)) f

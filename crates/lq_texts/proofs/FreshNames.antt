@@ -129,7 +129,8 @@ stops_or_all taken x zero from = inr (λ i low high. absurd (omega arith))
 stops_or_all taken x (suc tries) from = by (is_listed taken (numbered x from)) refl (stops_or_all taken x tries (suc from))
   where
     by : (b : Bool) → is_listed taken (numbered x from) ≡ b →
-        (is_listed taken (fresh_from taken x (suc from) tries) ≡ false) ⊎ ((i : ℕ) → suc from ≤ i → i < suc from + tries → is_listed taken (numbered x i) ≡ true) →
+        (is_listed taken (fresh_from taken x (suc from) tries) ≡ false) ⊎
+        ((i : ℕ) → suc from ≤ i → i < suc from + tries → is_listed taken (numbered x i) ≡ true) →
         (is_listed taken (elim b as (λ _. Name) [ true ↦ fresh_from taken x (suc from) tries | false ↦ numbered x from ]) ≡ false)
         ⊎ ((i : ℕ) → from ≤ i → i < from + suc tries → is_listed taken (numbered x i) ≡ true)
     by false e others = inl e
@@ -140,20 +141,24 @@ stops_or_all taken x (suc tries) from = by (is_listed taken (numbered x from)) r
         step i low high true g = all i (omega (arith, ltb-true from i g)) (omega (arith, high))
         step i low high false g = let same : from ≡ i = omega (arith, low, ltb-false from i g) in ap (λ j. is_listed taken (numbered x j)) (sym same) ∙ e
 
-many_apart : (taken ns : List Name) (x : Name) → ((y : Name) → is_listed taken y ≡ true → is_listed ns y ≡ true) → length ns < 2 ^ 64 → 2 ^ 64 ≤ length taken → is_listed taken (fresh_of taken x) ≡ false
+many_apart : (taken ns : List Name) (x : Name) → ((y : Name) → is_listed taken y ≡ true → is_listed ns y ≡ true) → length ns < 2 ^ 64 →
+    2 ^ 64 ≤ length taken → is_listed taken (fresh_of taken x) ≡ false
 unfolding fresh_of
 many_apart taken ns x within few large = by (is_listed taken x) refl
   where
-    through : (is_listed taken (fresh_from taken x 0 (length taken)) ≡ false) ⊎ ((i : ℕ) → 0 ≤ i → i < 0 + length taken → is_listed taken (numbered x i) ≡ true) → is_listed taken (fresh_from taken x 0 (length taken)) ≡ false
+    through : (is_listed taken (fresh_from taken x 0 (length taken)) ≡ false) ⊎
+        ((i : ℕ) → 0 ≤ i → i < 0 + length taken → is_listed taken (numbered x i) ≡ true) → is_listed taken (fresh_from taken x 0 (length taken)) ≡ false
     through (inl e) = e
-    through (inr all) = absurd (omega (arith, few, all_listed x ns (2 ^ 64) (omega arith) (λ i low. within (numbered x i) (all i (omega arith) (omega (arith, low, large))))))
+    through (inr all) =
+        absurd (omega (arith, few, all_listed x ns (2 ^ 64) (omega arith) (λ i low. within (numbered x i) (all i (omega arith) (omega (arith, low, large))))))
 
     by : (b : Bool) → is_listed taken x ≡ b → is_listed taken (elim b as (λ _. Name) [ true ↦ fresh_from taken x 0 (length taken) | false ↦ x ]) ≡ false
     by true e = through (stops_or_all taken x (length taken) 0)
     by false e = e
 
 -- a name that is made fresh among few names is none of them
-pub fresh_apart : (taken ns : List Name) (x : Name) → ((y : Name) → is_listed taken y ≡ true → is_listed ns y ≡ true) → length ns < 2 ^ 64 → is_listed taken (fresh_of taken x) ≡ false
+pub fresh_apart : (taken ns : List Name) (x : Name) → ((y : Name) → is_listed taken y ≡ true → is_listed ns y ≡ true) → length ns < 2 ^ 64 →
+    is_listed taken (fresh_of taken x) ≡ false
 fresh_apart taken ns x within few = by (nat_lt (length taken) (2 ^ 64)) refl
   where
     by : (b : Bool) → nat_lt (length taken) (2 ^ 64) ≡ b → is_listed taken (fresh_of taken x) ≡ false

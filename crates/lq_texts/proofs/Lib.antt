@@ -30,6 +30,7 @@ pub mod PrintedNames
 pub mod ReadsBackLaw
 pub mod Closing
 pub mod ElaborationSteps
+pub mod BinderNames
 pub mod Elaborating
 pub mod ElaboratesBackLaw
 mod Samples
