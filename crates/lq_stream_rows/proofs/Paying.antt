@@ -1,6 +1,6 @@
 -- The step of a node, under a budget of which a tick was taken.
-use Rattle.std.proofs.Common.{◌≡◌, ◌+◌, ℕ, suc, List, [], ◌∷◌, refl, sym, ◌∙◌, ap, subst, arith}
-use Rattle.lq_runs.specs.Runs.{tick, say, yield, none}
+use Rattle.std.proofs.Common.{◌≡◌, ◌+◌, ℕ, suc, List, [], ◌∷◌, refl, ◌∙◌, ap, arith}
+use Rattle.lq_runs.specs.Runs.{yield, none}
 use Rattle.lq_runs.specs.Machines.{gives, out, hearing, first}
 use Rattle.lq_stream_rows.specs.declared.program.Node.{Node}
 use Rattle.lq_stream_rows.specs.declared.program.Code.{Code}

@@ -1,4 +1,4 @@
-use Rattle.std.proofs.Common.{◌≡◌, ◌+◌, ℕ, [], ◌++◌, sym, ◌∙◌, ap, arith, append-nil}
+use Rattle.std.proofs.Common.{◌≡◌, [], ◌++◌, sym, ◌∙◌, ap, arith, append-nil}
 use Rattle.lq_runs.specs.Runs.{none}
 use Rattle.lq_runs.specs.Machines.{gives}
 use Rattle.lq_stream_rows.specs.Acting.{called, said, set_by, node_at}
