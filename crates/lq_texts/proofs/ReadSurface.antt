@@ -1,5 +1,5 @@
 -- `Check` and a printed surface are one sentence that reads to it.
-use Rattle.std.proofs.Common.{◌≡◌, ℕ, suc, ◌+◌, ◌<◌, ◌≤◌, true, false, not, List, [], ◌∷◌, ◌++◌, drop, length, Result, Err, refl, sym, ap, ◌∙◌, subst, arith, inl, inr, append_assoc, length-append}
+use Rattle.std.proofs.Common.{Ok, ◌≡◌, ℕ, suc, ◌+◌, ◌<◌, ◌≤◌, true, false, not, List, [], ◌∷◌, ◌++◌, drop, length, Result, Err, refl, sym, ap, ◌∙◌, subst, arith, inl, inr, append_assoc, length-append}
 use Rattle.std.specs.Prelude.{◌&&◌, nat_le, codes}
 use Rattle.std.proofs.lemmas.Bool.{le-leb}
 use Rattle.lq_grammar.specs.declared.token.Symbol.TheVariants as sign
@@ -8,7 +8,7 @@ use Rattle.lq_grammar.specs.declared.token.TokenKind.TheVariants as kind
 use Rattle.lq_grammar.specs.Cells.{Cells, letter, cells, view}
 use Rattle.lq_grammar.specs.Tokens.{word, found}
 use Rattle.lq_grammar.specs.Selectors.{closes}
-use Rattle.lq_grammar.specs.Cutting.{longest, gathered, is_space, next}
+use Rattle.lq_grammar.specs.Cutting.{sentence, longest, gathered, is_space, next}
 use Rattle.lq_grammar.proofs.CellLaws.{view_own, view_whole}
 use Rattle.lq_grammar.proofs.Turns.{after_found, gathered-suc, begun_by, begun-suc}
 use Rattle.lq_grammar.proofs.Computing.{cutting}
@@ -184,9 +184,12 @@ module _ (s : Surface) (h : IsSpoken s) where
       by : Gathers longest 5 (check_token ∷ []) (behind_check s) (next (spoken s) 0) → ReadsTo (spoken s) (stated 0 (command (check s)))
       by (inl g) = whole reads
         where
+          ends_there : next (spoken s) 0 ≡ Ok (sentence all_tokens (length (spoken s)))
+          ends_there = g.1 ∙ ap (λ p. Ok (sentence all_tokens p)) (sym whole_length)
+
           whole : Reads 0 s (placed 6 (pieces any s) ++ end_words) → ReadsTo (spoken s) (stated 0 (command (check s)))
-          whole (inl r) = reads_to all_tokens _ g.1 (read_whole _ r)
-          whole (inr r) = is_nested all_tokens _ r.0 g.1 (read_whole _ r.1)
+          whole (inl r) = reads_to all_tokens ends_there (read_whole _ r)
+          whole (inr r) = is_nested all_tokens r.0 ends_there (read_whole _ r.1)
       by (inr g) = is_long (check_token ∷ g.1) _ g.3 (read_long g.1 g.2 (omega (arith, g.0, whole_length)))
 
 -- `Check`, the text of a surface that is printed, and `.`

@@ -131,8 +131,8 @@ check_sentence env t = codes "Check " ++ term_text env t ++ codes " ."
 
 -- the whole text is one sentence that reads to that tree, or is nested too deep, or is too long
 pub data ReadsTo (text : List ℕ) (s : Sentence) : Type 0 where
-  reads_to : (ts : List _) (p : ℕ) → next text 0 ≡ Ok (sentence ts p) → read_sentence text ts ≡ Ok s → ReadsTo text s
-  is_nested : (ts : List _) (p q : ℕ) → next text 0 ≡ Ok (sentence ts p) → read_sentence text ts ≡ Err (TooNested q) → ReadsTo text s
+  reads_to : (ts : List _) → next text 0 ≡ Ok (sentence ts (length text)) → read_sentence text ts ≡ Ok s → ReadsTo text s
+  is_nested : (ts : List _) (q : ℕ) → next text 0 ≡ Ok (sentence ts (length text)) → read_sentence text ts ≡ Err (TooNested q) → ReadsTo text s
   is_long : (ts : List _) (p : ℕ) → next text 0 ≡ Ok (sentence ts p) → read_sentence text ts ≡ Err (SentenceTooLong 0) → ReadsTo text s
 
 -- a printable term's text reads to its surface
