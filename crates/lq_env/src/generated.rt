@@ -17,9 +17,9 @@ use crate::eliminators::{conclude, predicate};
 use crate::family::{EnvFault, Family};
 use crate::premises::{Draft, premise, push_binder};
 use crate::stored::under_parameters;
-use crate::telescopes::{Binder, MOST_NODES, telescope};
+use crate::telescopes::{Binder, telescope};
 use lq_terms::{Bank, NameId, TermId, measure};
-use lq_trees::Sort;
+use lq_trees::{MOST_NODES, Sort};
 
 /// One more premise, as a product without a name.
 fn add_premise(

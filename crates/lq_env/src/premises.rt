@@ -19,8 +19,9 @@ ghost use Rattle.lq_env.specs.Premises.{AreBelow, IsDraft, Overflows, Advances, 
 use crate::eliminators::{apply_each, apply_hypotheses, apply_node, apply_places};
 use crate::family::{EnvFault, Family};
 use crate::positivity::own;
-use crate::telescopes::{Binder, MOST_NODES, telescope};
+use crate::telescopes::{Binder, telescope};
 use lq_terms::{Bank, NameId, NoMemory, Node, TermId, measure, spread};
+use lq_trees::MOST_NODES;
 
 /// A premise as far as it is built.
 #[derive(Drop)]

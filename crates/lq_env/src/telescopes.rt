@@ -14,6 +14,7 @@ ghost use Rattle.lq_env.specs.Building.{HasBinder, binders_of, Builds, many};
 
 use crate::family::EnvFault;
 use lq_terms::{Bank, Hypothesis, NameId, NoMemory, Node, TermId, measure, put};
+use lq_trees::MOST_NODES;
 
 /// A binder and its type.
 #[derive(Clone, Copy)]
@@ -23,9 +24,6 @@ pub(crate) struct Binder {
     /// Its type.
     pub(crate) kind: TermId,
 }
-
-/// The most nodes that a tree within the limits has.
-pub(crate) const MOST_NODES: u64 = 1_000_000;
 
 /// The products over binders, the outermost first.
 pub(crate) fn telescope(

@@ -14,7 +14,7 @@ use Rattle.lq_trees.specs.Rules.{Counts, Arguments}
 use Rattle.lq_calculus.specs.Contraction.{whnf}
 use Rattle.lq_calculus.specs.Declarations.{Env as Environment, Entry, Family, arity, lookup, delta_in, family_in, counts_of, rule_arguments, rules_of}
 use Rattle.lq_calculus.specs.Typing.{product_sort, first_big}
-use Rattle.lq_calculus.specs.Checking.{Kernel, mismatch, fitting, as_sort, as_product, needed_form, matching, constant_kind, family_kind, ctor_kind, elim_kind, conv, infer, sort_of, answer_of, row_sorts, not_big, check_constructors}
+use Rattle.lq_calculus.specs.Checking.{Kernel, mismatch, fitting, as_sort, as_product, needed_form, matching, constant_kind, family_kind, ctor_kind, elim_kind, conv, infer, sort_of, answer_of, domain_sorts, not_big, check_constructors}
 
 -- one part after the other, where the parts are the same
 bind_alike : {A B : Type 0} {r s : Kernel A} {k l : A → Kernel B} → r ≡ s → ((a : A) → k a ≡ l a) → (r >>= k) ≡ (s >>= l)
@@ -71,8 +71,8 @@ module _ (E F : Environment) (rules : rules_of E ≡ rules_of F) (constants : (c
   unfolding sort_of
   sort_alike n g t = bind_alike (infer_alike n g t) (λ K. form_alike as_sort n g K)
 
-  row_alike : (n : ℕ) (g : Context) (t : Tree) → row_sorts E n g t ≡ row_sorts F n g t
-  unfolding row_sorts
+  row_alike : (n : ℕ) (g : Context) (t : Tree) → domain_sorts E n g t ≡ domain_sorts F n g t
+  unfolding domain_sorts
   row_alike (suc n) g (Prod x A B) =
       ap₂ (λ o ss. elim o as (λ z. List Universe) [ None ↦ [] | Some s ↦ s ∷ ss ]) (ap answer_of (sort_alike n g A)) (row_alike n (under g (fresh g x) A) (opened (fresh g x) B))
   row_alike n g _ = refl
@@ -82,7 +82,7 @@ module _ (E F : Environment) (rules : rules_of E ≡ rules_of F) (constants : (c
   constructors_alike n f [] = refl
   constructors_alike n f (c ∷ cs) =
       bind_alike (sort_alike n f.parameters c.1)
-      (λ s. ap₂ (λ row rest. not_big c.0 (first_big f.sort 1 row) >>= λ ok. rest >>= λ found. gives (row ∷ found)) (row_alike n f.parameters c.1) (constructors_alike n f cs))
+      (λ s. ap₂ (λ domains rest. not_big c.0 (first_big f.sort 1 domains) >>= λ ok. rest >>= λ found. gives (domains ∷ found)) (row_alike n f.parameters c.1) (constructors_alike n f cs))
 
 -- an entry at the end
 module _ (c : Name) (A B : Tree) where

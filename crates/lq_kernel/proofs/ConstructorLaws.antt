@@ -13,7 +13,7 @@ use Rattle.lq_terms.specs.declared.nodes.TermId.{TermId}
 use Rattle.lq_terms.specs.Terms.{Terms, text_of, tree_of}
 use Rattle.lq_calculus.specs.Declarations.{Env as Environment, Family as TreeFamily, all_proofs, is_small}
 use Rattle.lq_calculus.specs.Typing.{first_big}
-use Rattle.lq_calculus.specs.Checking.{Kernel, too_big, sort_of, row_sorts, not_big, check_constructors}
+use Rattle.lq_calculus.specs.Checking.{Kernel, too_big, sort_of, domain_sorts, not_big, check_constructors}
 use Rattle.lq_env.specs.Families.{constructors_of}
 use Rattle.lq_kernel.specs.declared.faults.KernelFault.{KernelFault}
 use Rattle.lq_kernel.specs.Answers.{Refuses}
@@ -24,36 +24,36 @@ use Rattle.lq_kernel.proofs.Goes.{Goes, goes_then, goes_on, goes_same, refuses_g
 module _ (E : Environment) (g : Context) (s : Universe) (x : Name) (t : Tree) (b left : ℕ) where
   pub constructor_stops : (bank : Terms) (e : KernelFault) → Refuses bank e (λ n. sort_of E n g t) b left → Refuses bank e (λ n. constructor_work E n g s x t) b left
   unfolding constructor_work
-  constructor_stops bank e r = refuses_first bank e (λ n. sort_of E n g t) (λ k n. not_big x (first_big s 1 (row_sorts E n g t)) >>= λ ok. gives (row_sorts E n g t)) b left r
+  constructor_stops bank e r = refuses_first bank e (λ n. sort_of E n g t) (λ k n. not_big x (first_big s 1 (domain_sorts E n g t)) >>= λ ok. gives (domain_sorts E n g t)) b left r
 
-  module _ (row : List Universe) (rows : (n : ℕ) → b < n → row ≡ row_sorts E n g t) (k : Universe) (sort : ComesTo (λ n. sort_of E n g t) b (done k left)) where
+  module _ (domains : List Universe) (reckoned : (n : ℕ) → b < n → domains ≡ domain_sorts E n g t) (k : Universe) (sort : ComesTo (λ n. sort_of E n g t) b (done k left)) where
     abbrev sizes : ℕ → Kernel (List Universe)
-    sizes n = not_big x (first_big s 1 row) >>= λ ok. gives row
+    sizes n = not_big x (first_big s 1 domains) >>= λ ok. gives domains
 
     sized : Goes (List Universe) (λ n. constructor_work E n g s x t) b sizes left
     unfolding constructor_work
     sized =
-        λ o h n l. ap (λ z. within b (sort_of E n g t >>= λ j. not_big x (first_big s 1 z) >>= λ ok. gives z)) (sym (rows n l)) ∙ goes_then (λ n. sort_of E n g t) (λ j n. sizes n) b k left sort o h n l
+        λ o h n l. ap (λ z. within b (sort_of E n g t >>= λ j. not_big x (first_big s 1 z) >>= λ ok. gives z)) (sym (reckoned n l)) ∙ goes_then (λ n. sort_of E n g t) (λ j n. sizes n) b k left sort o h n l
 
-    pub constructor_big : (j : ℕ) → Some j ≡ first_big s 1 row → ComesTo (λ n. constructor_work E n g s x t) b (failed (too_big x j) left)
+    pub constructor_big : (j : ℕ) → Some j ≡ first_big s 1 domains → ComesTo (λ n. constructor_work E n g s x t) b (failed (too_big x j) left)
     unfolding not_big ◌>>=◌
-    constructor_big j e = sized (failed (too_big x j) left) (comes_fails sizes (too_big x j) left (λ n. ap (λ o. not_big x o >>= λ ok. gives row) (sym e)))
+    constructor_big j e = sized (failed (too_big x j) left) (comes_fails sizes (too_big x j) left (λ n. ap (λ o. not_big x o >>= λ ok. gives domains) (sym e)))
 
-    pub constructor_ends : None ≡ first_big s 1 row → ComesTo (λ n. constructor_work E n g s x t) b (done row left)
+    pub constructor_ends : None ≡ first_big s 1 domains → ComesTo (λ n. constructor_work E n g s x t) b (done domains left)
     unfolding not_big ◌>>=◌
-    constructor_ends e = sized (done row left) (comes_gives sizes row left (λ n. ap (λ o. not_big x o >>= λ ok. gives row) (sym e)))
+    constructor_ends e = sized (done domains left) (comes_gives sizes domains left (λ n. ap (λ o. not_big x o >>= λ ok. gives domains) (sym e)))
 
 -- one constructor in front of others
-module _ (found : List (List Universe)) (row : List Universe) where
-  third : (rest : Kernel (List (List Universe))) → (rest >>= (λ fd. gives (row ∷ fd)) >>= (λ more. gives (found ++ more))) ≡ (rest >>= (λ more. gives ((found ++ row ∷ []) ++ more)))
+module _ (found : List (List Universe)) (domains : List Universe) where
+  third : (rest : Kernel (List (List Universe))) → (rest >>= (λ fd. gives (domains ∷ fd)) >>= (λ more. gives (found ++ more))) ≡ (rest >>= (λ more. gives ((found ++ domains ∷ []) ++ more)))
   unfolding ◌>>=◌
-  third (gives fd) = ap gives (sym (append_assoc found (row ∷ []) fd))
+  third (gives fd) = ap gives (sym (append_assoc found (domains ∷ []) fd))
   third (fails f) = refl
   third cut = refl
   third (tick r) = ap tick (third r)
 
   second : (q : Kernel (Unit {0})) (rest : Kernel (List (List Universe)))
-      → ((q >>= λ ok. rest >>= λ fd. gives (row ∷ fd)) >>= (λ more. gives (found ++ more))) ≡ ((q >>= λ ok. gives row) >>= (λ r. rest >>= λ more. gives ((found ++ r ∷ []) ++ more)))
+      → ((q >>= λ ok. rest >>= λ fd. gives (domains ∷ fd)) >>= (λ more. gives (found ++ more))) ≡ ((q >>= λ ok. gives domains) >>= (λ r. rest >>= λ more. gives ((found ++ r ∷ []) ++ more)))
   unfolding ◌>>=◌
   second (gives ok) rest = third rest
   second (fails f) rest = refl
@@ -61,7 +61,7 @@ module _ (found : List (List Universe)) (row : List Universe) where
   second (tick q) rest = ap tick (second q rest)
 
   first : (sort : Kernel Universe) (q : Kernel (Unit {0})) (rest : Kernel (List (List Universe)))
-      → ((sort >>= λ s. q >>= λ ok. rest >>= λ fd. gives (row ∷ fd)) >>= (λ more. gives (found ++ more))) ≡ ((sort >>= λ s. q >>= λ ok. gives row) >>= (λ r. rest >>= λ more. gives ((found ++ r ∷ []) ++ more)))
+      → ((sort >>= λ s. q >>= λ ok. rest >>= λ fd. gives (domains ∷ fd)) >>= (λ more. gives (found ++ more))) ≡ ((sort >>= λ s. q >>= λ ok. gives domains) >>= (λ r. rest >>= λ more. gives ((found ++ r ∷ []) ++ more)))
   unfolding ◌>>=◌
   first (gives s) q rest = second q rest
   first (fails f) q rest = refl
@@ -89,31 +89,31 @@ module _ (E : Environment) (f : TreeFamily) (bank : Terms) (cs : List (NameId ×
   work n = constructor_work E n f.parameters f.sort (text_of bank (get_or cs i d).0) (tree_of bank (get_or cs i d).1)
 
   abbrev later : List Universe → ℕ → Kernel (List (List Universe))
-  later row n = check_constructors E n f (constructors_of bank (drop (i + 1) cs)) >>= λ more. gives ((so_far.found ++ row ∷ []) ++ more)
+  later domains n = check_constructors E n f (constructors_of bank (drop (i + 1) cs)) >>= λ more. gives ((so_far.found ++ domains ∷ []) ++ more)
 
-  next : (n : ℕ) → (check_constructors E n f (constructors_of bank (drop i cs)) >>= λ more. gives (so_far.found ++ more)) ≡ (work n >>= λ row. later row n)
+  next : (n : ℕ) → (check_constructors E n f (constructors_of bank (drop i cs)) >>= λ more. gives (so_far.found ++ more)) ≡ (work n >>= λ domains. later domains n)
   unfolding check_constructors constructor_work
   next n =
       ap (λ es. check_constructors E n f (constructors_of bank es) >>= λ more. gives (so_far.found ++ more)) (drop_more cs i d l)
-      ∙ first so_far.found (row_sorts E n f.parameters (tree_of bank (get_or cs i d).1)) (sort_of E n f.parameters (tree_of bank (get_or cs i d).1))
-      (not_big (text_of bank (get_or cs i d).0) (first_big f.sort 1 (row_sorts E n f.parameters (tree_of bank (get_or cs i d).1)))) (check_constructors E n f (constructors_of bank (drop (i + 1) cs)))
+      ∙ first so_far.found (domain_sorts E n f.parameters (tree_of bank (get_or cs i d).1)) (sort_of E n f.parameters (tree_of bank (get_or cs i d).1))
+      (not_big (text_of bank (get_or cs i d).0) (first_big f.sort 1 (domain_sorts E n f.parameters (tree_of bank (get_or cs i d).1)))) (check_constructors E n f (constructors_of bank (drop (i + 1) cs)))
 
-  start : Goes (List (List Universe)) (λ n. check_constructors E n f (constructors_of bank cs)) b (λ n. work n >>= λ row. later row n) left
+  start : Goes (List (List Universe)) (λ n. check_constructors E n f (constructors_of bank cs)) b (λ n. work n >>= λ domains. later domains n) left
   start =
-      goes_on (λ n. check_constructors E n f (constructors_of bank cs)) (λ n. check_constructors E n f (constructors_of bank (drop i cs)) >>= λ more. gives (so_far.found ++ more)) (λ n. work n >>= λ row. later row n) b left left so_far.goes
-      (goes_same (λ n. check_constructors E n f (constructors_of bank (drop i cs)) >>= λ more. gives (so_far.found ++ more)) (λ n. work n >>= λ row. later row n) left next)
+      goes_on (λ n. check_constructors E n f (constructors_of bank cs)) (λ n. check_constructors E n f (constructors_of bank (drop i cs)) >>= λ more. gives (so_far.found ++ more)) (λ n. work n >>= λ domains. later domains n) b left left so_far.goes
+      (goes_same (λ n. check_constructors E n f (constructors_of bank (drop i cs)) >>= λ more. gives (so_far.found ++ more)) (λ n. work n >>= λ domains. later domains n) left next)
 
   pub constructors_refused : (new : Terms) (r : Result Bool KernelFault) (e : KernelFault) (c : ℕ) → IsErrAnd r (λ y. y ≡ e) → Refuses new e work left c → FindsSmall new r (λ n. check_constructors E n f (constructors_of bank cs)) b c
   constructors_refused new r e c j k =
       err_out (λ z. FindsSmall new z (λ n. check_constructors E n f (constructors_of bank cs)) b c) r e j
-      (refuses_goes new e (λ n. check_constructors E n f (constructors_of bank cs)) b (λ n. work n >>= λ row. later row n) left c start (refuses_first new e work later left c k))
+      (refuses_goes new e (λ n. check_constructors E n f (constructors_of bank cs)) b (λ n. work n >>= λ domains. later domains n) left c start (refuses_first new e work later left c k))
 
-  pub constructors_later : (row : List Universe) (c : ℕ) (smaller : Bool) → ComesTo work left (done row c) → ((found : List (List Universe)) → length found ≡ i → smaller ≡ is_small (found ++ row ∷ [])) → SoFar E f bank cs (i + 1) b c smaller
-  constructors_later row c smaller h k = record {
-    found = so_far.found ++ row ∷ [];
-    number = length-append so_far.found (row ∷ []) ∙ ap (λ m. m + 1) so_far.number;
+  pub constructors_later : (domains : List Universe) (c : ℕ) (smaller : Bool) → ComesTo work left (done domains c) → ((found : List (List Universe)) → length found ≡ i → smaller ≡ is_small (found ++ domains ∷ [])) → SoFar E f bank cs (i + 1) b c smaller
+  constructors_later domains c smaller h k = record {
+    found = so_far.found ++ domains ∷ [];
+    number = length-append so_far.found (domains ∷ []) ∙ ap (λ m. m + 1) so_far.number;
     is = k so_far.found so_far.number;
-    goes = goes_on (λ n. check_constructors E n f (constructors_of bank cs)) (λ n. work n >>= λ row. later row n) (later row) b left c start (goes_then work later left row c h);
+    goes = goes_on (λ n. check_constructors E n f (constructors_of bank cs)) (λ n. work n >>= λ domains. later domains n) (later domains) b left c start (goes_then work later left domains c h);
   }
 
 pub constructors_end : (E : Environment) (f : TreeFamily) (bank : Terms) (cs : List (NameId × TermId)) (i b left : ℕ) (small : Bool) → length cs ≤ i → SoFar E f bank cs i b left small
@@ -128,16 +128,16 @@ constructors_end E f bank cs i b left small l so_far = record {
 }
 
 -- the smallness with one more constructor
-pub small_first : (row : List Universe) (found : List (List Universe)) → length found ≡ 0 → all_proofs row ≡ is_small (found ++ row ∷ [])
+pub small_first : (domains : List Universe) (found : List (List Universe)) → length found ≡ 0 → all_proofs domains ≡ is_small (found ++ domains ∷ [])
 unfolding is_small
-small_first row [] e = refl
-small_first row (r ∷ rs) e = absurd (omega (arith, e))
+small_first domains [] e = refl
+small_first domains (r ∷ rs) e = absurd (omega (arith, e))
 
-pub small_later : (row : List Universe) (found : List (List Universe)) → 0 < length found → false ≡ is_small (found ++ row ∷ [])
+pub small_later : (domains : List Universe) (found : List (List Universe)) → 0 < length found → false ≡ is_small (found ++ domains ∷ [])
 unfolding is_small
-small_later row [] l = absurd (omega (arith, l))
-small_later row (r ∷ []) l = refl
-small_later row (r ∷ q ∷ rs) l = refl
+small_later domains [] l = absurd (omega (arith, l))
+small_later domains (r ∷ []) l = refl
+small_later domains (r ∷ q ∷ rs) l = refl
 
 -- what is returned where a call was refused
 pub refused_by : {A : Type 0} (P : KernelFault → Type 0) (r : Result A KernelFault) (e : KernelFault) → IsErrAnd r (λ y. y ≡ e) → P e → IfErr r P

@@ -12,7 +12,7 @@ pub mod Cycle
 pub mod CallLaws
 pub mod ConstantLaws
 pub mod ArityLaws
-pub mod RowLaws
+pub mod DomainLaws
 pub mod Oversized
 pub mod TelescopeLaws
 pub mod ConstructorLaws

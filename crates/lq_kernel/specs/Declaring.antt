@@ -9,7 +9,7 @@ use Rattle.lq_trees.specs.Ticks.{gives, ◌>>=◌, done, ComesTo}
 use Rattle.lq_terms.specs.Terms.{Terms, HasName, text_of, tree_of}
 use Rattle.lq_calculus.specs.Declarations.{Env as Environment, Family as TreeFamily, EnvFault as Fault, arity, family_type, family_entries, first_fault, constructors_fault, first_stored, stored_types, is_small, permitted, sorts}
 use Rattle.lq_calculus.specs.Typing.{first_big}
-use Rattle.lq_calculus.specs.Checking.{Kernel, sort_of, row_sorts, not_big, sorts_of, check_constructors, no_env_fault, declare_constant, declare_family}
+use Rattle.lq_calculus.specs.Checking.{Kernel, sort_of, domain_sorts, not_big, sorts_of, check_constructors, no_env_fault, declare_constant, declare_family}
 use Rattle.lq_env.specs.declared.family.Family.{Family}
 use Rattle.lq_env.specs.declared.family.EnvFault.{EnvFault}
 use Rattle.lq_env.specs.declared.environment.Declared.{Declared}
@@ -76,7 +76,7 @@ chained x (suc n) = Tree.Prod x (Tree.Sort Universe.Base) (chained x n)
 
 -- the check of a constructor: a sort for its type, then the sizes of its arguments; the answer is their sorts
 unfoldable pub constructor_work : Environment → ℕ → Context → Universe → Name → Tree → Kernel (List Universe)
-constructor_work env n g s x t = sort_of env n g t >>= λ k. not_big x (first_big s 1 (row_sorts env n g t)) >>= λ ok. gives (row_sorts env n g t)
+constructor_work env n g s x t = sort_of env n g t >>= λ k. not_big x (first_big s 1 (domain_sorts env n g t)) >>= λ ok. gives (domain_sorts env n g t)
 
 -- the check of a family's constructors, with its arity in the environment
 unfoldable pub constructors_work : Environment → TreeFamily → ℕ → Kernel (List (List Universe))

@@ -98,15 +98,15 @@ IsProductOr bank (Ok p) t = HasParts bank p t
 IsProductOr bank (Err e) t = (e ≡ KernelFault.NotAProduct t) × ((x : Name) (A B : Tree) → ¬ (tree_of bank t ≡ Tree.Prod x A B))
 
 -- the parts of the product that the tree is, or it is none
-pub record IsRow (bank : Terms) (p : NameId × TermId × TermId) (t : TermId) : Type 0 where
+pub record IsSplit (bank : Terms) (p : NameId × TermId × TermId) (t : TermId) : Type 0 where
   pub binder : HasName bank p.0
   pub domain : HasTerm bank p.1
   pub rest : HasTerm bank p.2
   pub is : tree_of bank t ≡ Tree.Prod (text_of bank p.0) (tree_of bank p.1) (tree_of bank p.2)
 
-abbrev pub IsRowOr : Terms → Option (NameId × TermId × TermId) → TermId → Type 0
-IsRowOr bank (Some p) t = IsRow bank p t
-IsRowOr bank None t = is_product (tree_of bank t) ≡ false
+abbrev pub IsSplitOr : Terms → Option (NameId × TermId × TermId) → TermId → Type 0
+IsSplitOr bank (Some p) t = IsSplit bank p t
+IsSplitOr bank None t = is_product (tree_of bank t) ≡ false
 
 -- a hypothesis of the bank without loose bound variables, and what it stands for
 pub record IsVariable (bank : Terms) (h : Hypothesis) (tree : TreeHypothesis) : Type 0 where

@@ -19,7 +19,7 @@ ghost use Rattle.lq_kernel.specs.Declaring.{IsOffered, constructor_work, FindsSm
 use crate::faults::KernelFault;
 use crate::inside::copied;
 use crate::looking::known;
-use crate::rows::{all_proofs, first_big, row_sort};
+use crate::telescopes::{all_proofs, first_big, telescope_sort};
 use crate::typing::sort_in;
 use lq_env::{Env, Family};
 use lq_terms::{Bank, Context, Hypothesis, NameId, NoMemory, Steps, TermId, Work};
@@ -113,7 +113,8 @@ fn check_constructor<L: Ledger>(
     requires context { IsContext work.old.bank.now family.now.parameters }
     ensures answer { (E : Environment) (G : TreeContext) (x : Name) (T : Tree) → env_of work.old.bank.now env.now ≡ E
         → context_of work.old.bank.now family.now.parameters ≡ G → text_of work.old.bank.now name ≡ x → tree_of work.old.bank.now kind ≡ T
-        → IfOk result (λ row. ComesTo (λ n. constructor_work E n G family.now.sort x T) work.old.ticks.now.left (done row.items work.new.ticks.now.left)) }
+        → IfOk result (λ domains.
+        ComesTo (λ n. constructor_work E n G family.now.sort x T) work.old.ticks.now.left (done domains.items work.new.ticks.now.left)) }
     ensures refused { (E : Environment) (G : TreeContext) (x : Name) (T : Tree) → env_of work.old.bank.now env.now ≡ E
         → context_of work.old.bank.now family.now.parameters ≡ G → text_of work.old.bank.now name ≡ x → tree_of work.old.bank.now kind ≡ T
         → IfErr result (λ e. Refuses work.new.bank.now e (λ n. constructor_work E n G family.now.sort x T) work.old.ticks.now.left work.new.ticks.now.left) }
@@ -124,20 +125,20 @@ fn check_constructor<L: Ledger>(
     ensures counted { steps.new + work.old.ticks.now.spent ≡ steps.old + work.new.ticks.now.spent }
 {
     let mut parameters = copied(work.bank.allocator(), &family.parameters)?;
-    let mut row = Vec::new(work.bank.allocator());
-    row_sort(work, env, &mut parameters, kind, &mut row, steps)?;
-    match first_big(family.sort, &row) {
+    let mut domains = Vec::new(work.bank.allocator());
+    telescope_sort(work, env, &mut parameters, kind, &mut domains, steps)?;
+    match first_big(family.sort, &domains) {
         Some(argument) => Err(KernelFault::TooBig(name, argument)),
-        None => Ok(row),
+        None => Ok(domains),
     }
 }
 
 /// Whether a family in Prop is eliminated into every sort, by the sorts of its last constructor's arguments and the number
 /// of the constructors before it.
-fn is_small_with(before: usize, row: &[Sort]) -> bool
-    ensures { (found : List (List Universe)) → length found ≡ before → result ≡ is_small (found ++ row.now ∷ []) }
+fn is_small_with(before: usize, domains: &[Sort]) -> bool
+    ensures { (found : List (List Universe)) → length found ≡ before → result ≡ is_small (found ++ domains.now ∷ []) }
 {
-    before == 0 && all_proofs(row)
+    before == 0 && all_proofs(domains)
 }
 
 /// Refuses constructors of which some type has no sort, or some argument one above the family's. Else it
@@ -162,8 +163,8 @@ pub(crate) fn check_constructors<L: Ledger>(
     let mut small = true;
     let constructors = family.constructors.constructors();
     for (index, constructor) in constructors.iter().enumerate() {
-        let row = check_constructor(work, env, family, constructor.0, constructor.1, steps)?;
-        small = is_small_with(index, &row);
+        let domains = check_constructor(work, env, family, constructor.0, constructor.1, steps)?;
+        small = is_small_with(index, &domains);
     }
     Ok(small)
 }

@@ -12,7 +12,7 @@ mod inside;
 mod kernel;
 mod looking;
 mod lookups;
-mod rows;
+mod telescopes;
 mod typing;
 
 pub use declaration::Declaration;

@@ -40,7 +40,8 @@ fn follows(
     requires names { AllByRecursion (HasName bank.now) names.old.items }
     requires context { HasContext bank.now context.now }
     ensures has { AllByRecursion (HasName bank.now) names.new.items }
-    ensures follows { IfOk result (λ b. IsTrue b → Follows (map (text_of bank.now) names.old.items) (context_of bank.now context.now) (map (text_of bank.now) names.new.items)) }
+    ensures follows { IfOk result
+        (λ b. IsTrue b → Follows (map (text_of bank.now) names.old.items) (context_of bank.now context.now) (map (text_of bank.now) names.new.items)) }
 {
     for hypothesis in context {
         if hypothesis.body.is_some()

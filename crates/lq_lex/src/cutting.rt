@@ -80,7 +80,8 @@ fn unsettled(piece: Piece) -> Candidate
 /// The sentence that begins at a place.
 fn gather(alloc: Global, view: &View<'_>, start: usize) -> Result<Candidate, LexFault>
     requires { start ≤ length view.now.text.now }
-    ensures { Gathers result (gathered (suc (length view.now.text.now)) view.now.text.now [] (view_from view.now start)) (is_settled (suc (length view.now.text.now)) view.now.text.now [] (view_from view.now start)) }
+    ensures { Gathers result (gathered (suc (length view.now.text.now)) view.now.text.now [] (view_from view.now start))
+        (is_settled (suc (length view.now.text.now)) view.now.text.now [] (view_from view.now start)) }
 {
     let mut tokens = Vec::new(alloc);
     let mut at = start;
@@ -135,7 +136,8 @@ fn is_space(view: &View<'_>, at: usize) -> bool
 /// Where the first sentence begins behind the blanks and comments from a place on.
 fn sentence_start(view: &View<'_>, start: usize) -> Result<Option<usize>, LexFault>
     requires { start ≤ length view.now.text.now }
-    ensures { Begins view.now result (begun (suc (length view.now.text.now)) view.now.text.now (view_from view.now start)) (begins_settled (suc (length view.now.text.now)) view.now.text.now (view_from view.now start)) }
+    ensures { Begins view.now result (begun (suc (length view.now.text.now)) view.now.text.now (view_from view.now start))
+        (begins_settled (suc (length view.now.text.now)) view.now.text.now (view_from view.now start)) }
 {
     let mut at = start;
     for turn in 0..view.text.len() + 1 {

@@ -1,7 +1,8 @@
 //! Where `{` ends a sentence, and which other tokens do.
 
 ghost use Rattle.std.specs.Prelude.{◌≡◌, ◌==◌, ◌||◌, ◌&&◌, ◌≤◌, not, [], ◌∷◌, All, MatchOption, codes, bytes_eq, length};
-ghost use Rattle.lq_grammar.specs.Selectors.{spelled, is_reserved, is_empty, is_word, is_colon, is_bang, is_open_square, is_close_square, is_word_selector, is_named_selector, next_part, is_whole, ranges_to_colon, opens, closes};
+ghost use Rattle.lq_grammar.specs.Selectors.{spelled, is_reserved, is_empty, is_word, is_colon, is_bang, is_open_square, is_close_square};
+ghost use Rattle.lq_grammar.specs.Selectors.{is_word_selector, is_named_selector, next_part, is_whole, ranges_to_colon, opens, closes};
 ghost use Rattle.lq_grammar.specs.declared.selector.RangePart.TheVariants.{First as first};
 ghost use Rattle.std.specs.List.{list_any};
 ghost use Rattle.lq_lex.specs.Views.{IsSpanned, is_open_curly};

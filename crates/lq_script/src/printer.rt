@@ -5,7 +5,8 @@ ghost use Rattle.std.specs.Prelude.{◌≡◌, ◌+◌, ◌^◌, ◌<◌, ◌∷
 ghost use Rattle.std.specs.List.{AllByRecursion};
 ghost use Rattle.lq_trees.specs.Size.{depth};
 ghost use Rattle.lq_terms.specs.Terms.{HasName, HasTerm, IsName, text_of, tree_of, Grows};
-ghost use Rattle.lq_output.specs.Printing.{uses, names_in, own_name, printed_name, sort_text, binder_text, left_side, arrow_text, forall_text, text_under, term_text};
+ghost use Rattle.lq_output.specs.Printing.{uses, names_in, own_name, printed_name, sort_text, binder_text};
+ghost use Rattle.lq_output.specs.Printing.{left_side, arrow_text, forall_text, text_under, term_text};
 ghost use Rattle.lq_output.specs.Sentences.{fault_text};
 ghost use Rattle.lq_output.specs.Output.{refused};
 ghost use Rattle.lq_script.specs.Binders.{binders_of, is_product};
@@ -240,7 +241,9 @@ fn append_forall(
 ) -> Result<(), NoMemory>
     requires binders { AllByRecursion (HasName bank.old) binders.old.items }
     requires product { HasProduct bank.old product }
-    ensures wrote { OnOk result (out.new.items ≡ out.old.items ++ used_text (binders_of bank.old binders.old.items) (text_of bank.old product.binder) (tree_of bank.old product.kind) (tree_of bank.old product.rest)) }
+    ensures wrote { OnOk result
+        (out.new.items ≡ out.old.items ++ used_text (binders_of bank.old binders.old.items) (text_of bank.old product.binder) (tree_of bank.old product.kind)
+        (tree_of bank.old product.rest)) }
     ensures binders { OnOk result (binders.new.items ≡ binders.old.items) }
     ensures grows { Grows bank.old bank.new }
 {
@@ -263,7 +266,8 @@ fn append_arrow(
 ) -> Result<(), NoMemory>
     requires binders { AllByRecursion (HasName bank.old) binders.old.items }
     requires product { HasProduct bank.old product }
-    ensures wrote { OnOk result (out.new.items ≡ out.old.items ++ unused_text (binders_of bank.old binders.old.items) (tree_of bank.old product.kind) (tree_of bank.old product.rest)) }
+    ensures wrote { OnOk result
+        (out.new.items ≡ out.old.items ++ unused_text (binders_of bank.old binders.old.items) (tree_of bank.old product.kind) (tree_of bank.old product.rest)) }
     ensures binders { OnOk result (binders.new.items ≡ binders.old.items) }
     ensures grows { Grows bank.old bank.new }
 {
@@ -283,7 +287,8 @@ fn append_left(
 ) -> Result<(), NoMemory>
     requires binders { AllByRecursion (HasName bank.old) binders.old.items }
     requires kind { HasTerm bank.old kind }
-    ensures wrote { OnOk result (out.new.items ≡ out.old.items ++ left_side (tree_of bank.old kind) (text_under (binders_of bank.old binders.old.items) (tree_of bank.old kind))) }
+    ensures wrote { OnOk result
+        (out.new.items ≡ out.old.items ++ left_side (tree_of bank.old kind) (text_under (binders_of bank.old binders.old.items) (tree_of bank.old kind))) }
     ensures binders { OnOk result (binders.new.items ≡ binders.old.items) }
     ensures grows { Grows bank.old bank.new }
 {
@@ -308,7 +313,8 @@ fn append_below(
     requires binders { AllByRecursion (HasName bank.old) binders.old.items }
     requires name { HasName bank.old name }
     requires rest { HasTerm bank.old rest }
-    ensures wrote { OnOk result (out.new.items ≡ out.old.items ++ text_under (text_of bank.old name ∷ binders_of bank.old binders.old.items) (tree_of bank.old rest)) }
+    ensures wrote { OnOk result
+        (out.new.items ≡ out.old.items ++ text_under (text_of bank.old name ∷ binders_of bank.old binders.old.items) (tree_of bank.old rest)) }
     ensures binders { OnOk result (binders.new.items ≡ binders.old.items) }
     ensures grows { Grows bank.old bank.new }
 {

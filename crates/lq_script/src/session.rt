@@ -63,7 +63,8 @@ fn find_sort<L: Ledger>(
     requires env { IsEnv work.old.bank.now env.now }
     requires statement { IsStatement work.old.bank.now statement }
     requires budget { work.old.ticks.now.left ≡ kernel_budget }
-    ensures answer { HasSort work.new.bank.now result (comes_to kernel_budget (λ n. sort_of (env_of work.old.bank.now env.now) n [] (tree_of work.old.bank.now statement))) }
+    ensures answer { HasSort work.new.bank.now result
+        (comes_to kernel_budget (λ n. sort_of (env_of work.old.bank.now env.now) n [] (tree_of work.old.bank.now statement))) }
     ensures same_bank { work.new.bank.ghost_name ≡ work.old.bank.ghost_name }
     ensures same_ticks { work.new.ticks.ghost_name ≡ work.old.ticks.ghost_name }
     ensures grows { Grows work.old.bank.now work.new.bank.now }
@@ -127,7 +128,8 @@ fn state<L: Ledger>(
     requires env { IsEnv bank.old env.now }
     requires name { HasName bank.old name }
     requires shallow { nesting (plain_surface surface.now) ≤ 200 }
-    ensures answer { Moves bank.new env.now result (with_tree kernel_budget (env_of bank.old env.now) (text_of bank.old name) (resolved (env_of bank.old env.now) [] (plain_surface surface.now))) }
+    ensures answer { Moves bank.new env.now result
+        (with_tree kernel_budget (env_of bank.old env.now) (text_of bank.old name) (resolved (env_of bank.old env.now) [] (plain_surface surface.now))) }
     ensures grows { Grows bank.old bank.new }
 {
     let Some(statement) = statement(bank, env, surface)? else {
@@ -160,7 +162,8 @@ fn theorem<L: Ledger>(
 ) -> Result<Place, SentenceFault>
     requires env { IsEnv bank.old env.now }
     requires shallow { nesting (plain_surface surface.now) ≤ 200 }
-    ensures answer { Moves bank.new env.now result (doing kernel_budget (env_of bank.old env.now) (place_of bank.old place.now) (grammar.theorem text.now (plain_surface surface.now))) }
+    ensures answer { Moves bank.new env.now result
+        (doing kernel_budget (env_of bank.old env.now) (place_of bank.old place.now) (grammar.theorem text.now (plain_surface surface.now))) }
     ensures grows { Grows bank.old bank.new }
 {
     let Place::Outside = place else {
@@ -192,7 +195,8 @@ fn work(
 ) -> Result<Place, SentenceFault>
     requires env { IsEnv bank.old env.now }
     requires place { IsPlace bank.old place.now }
-    ensures answer { Moves bank.new env.now result (doing kernel_budget (env_of bank.old env.now) (place_of bank.old place.now) (grammar.tactics (map plain_tactic tactics.now))) }
+    ensures answer { Moves bank.new env.now result
+        (doing kernel_budget (env_of bank.old env.now) (place_of bank.old place.now) (grammar.tactics (map plain_tactic tactics.now))) }
     ensures grows { Grows bank.old bank.new }
 {
     let Place::Begun(name, statement) = place else {
@@ -230,7 +234,11 @@ fn declare_theorem<L: Ledger>(
     requires statement { IsStatement work.old.bank.now statement }
     requires term { IsScoped work.old.bank.now 0 term }
     requires budget { work.old.ticks.now.left ≡ kernel_budget }
-    ensures answer { Runs string_bytes work.new.bank.now env.new Place.Outside result (declared (text_of work.old.bank.now name) (comes_to kernel_budget (λ n. declare_constant (env_of work.old.bank.now env.old) n (text_of work.old.bank.now name) (tree_of work.old.bank.now statement) (tree_of work.old.bank.now term) true))) }
+    ensures answer { Runs string_bytes work.new.bank.now env.new Place.Outside result
+        (declared (text_of work.old.bank.now name)
+        (comes_to kernel_budget
+        (λ n. declare_constant (env_of work.old.bank.now env.old) n (text_of work.old.bank.now name) (tree_of work.old.bank.now statement)
+        (tree_of work.old.bank.now term) true))) }
     ensures kept { OnErr result (env.new ≡ env.old) }
     ensures declared { IsEnv work.new.bank.now env.new }
     ensures same_bank { work.new.bank.ghost_name ≡ work.old.bank.ghost_name }
@@ -263,7 +271,10 @@ fn define<L: Ledger>(
     requires name { HasName bank.old name }
     requires statement { IsStatement bank.old statement }
     requires term { IsScoped bank.old 0 term }
-    ensures answer { Runs string_bytes bank.new env.new Place.Outside result (declared (text_of bank.old name) (comes_to kernel_budget (λ n. declare_constant (env_of bank.old env.old) n (text_of bank.old name) (tree_of bank.old statement) (tree_of bank.old term) true))) }
+    ensures answer { Runs string_bytes bank.new env.new Place.Outside result
+        (declared (text_of bank.old name)
+        (comes_to kernel_budget
+        (λ n. declare_constant (env_of bank.old env.old) n (text_of bank.old name) (tree_of bank.old statement) (tree_of bank.old term) true))) }
     ensures kept { OnErr result (env.new ≡ env.old) }
     ensures declared { IsEnv bank.new env.new }
     ensures grows { Grows bank.old bank.new }
@@ -285,7 +296,8 @@ fn finish<L: Ledger>(
 ) -> Result<String, SentenceFault>
     requires env { IsEnv bank.old env.old }
     requires place { IsPlace bank.old place.now }
-    ensures answer { Runs string_bytes bank.new env.new Place.Outside result (doing kernel_budget (env_of bank.old env.old) (place_of bank.old place.now) grammar.qed) }
+    ensures answer { Runs string_bytes bank.new env.new Place.Outside result
+        (doing kernel_budget (env_of bank.old env.old) (place_of bank.old place.now) grammar.qed) }
     ensures kept { OnErr result (env.new ≡ env.old) }
     ensures declared { IsEnv bank.new env.new }
     ensures grows { Grows bank.old bank.new }
@@ -334,7 +346,9 @@ impl<'b> Session<'b> {
     ) -> Result<String, SentenceFault>
         requires session { IsSession self.old.bank self.old.env self.old.place }
         requires shallow { nesting (plain_surface surface.now) ≤ 200 }
-        ensures answer { Runs string_bytes self.new.bank self.new.env self.new.place result (doing kernel_budget (env_of self.old.bank self.old.env) (place_of self.old.bank self.old.place) (grammar.theorem text.now (plain_surface surface.now))) }
+        ensures answer { Runs string_bytes self.new.bank self.new.env self.new.place result
+            (doing kernel_budget (env_of self.old.bank self.old.env) (place_of self.old.bank self.old.place)
+            (grammar.theorem text.now (plain_surface surface.now))) }
         ensures keeps { IsSession self.new.bank self.new.env self.new.place }
         ensures kept { OnErr result ((self.new.env ≡ self.old.env) × (self.new.place ≡ self.old.place)) }
         ensures grows { Grows self.old.bank self.new.bank }
@@ -351,7 +365,8 @@ impl<'b> Session<'b> {
     /// `Proof`.
     fn run_proof(&mut self) -> Result<String, SentenceFault>
         requires session { IsSession self.old.bank self.old.env self.old.place }
-        ensures answer { Runs string_bytes self.new.bank self.new.env self.new.place result (doing kernel_budget (env_of self.old.bank self.old.env) (place_of self.old.bank self.old.place) grammar.proof) }
+        ensures answer { Runs string_bytes self.new.bank self.new.env self.new.place result
+            (doing kernel_budget (env_of self.old.bank self.old.env) (place_of self.old.bank self.old.place) grammar.proof) }
         ensures keeps { IsSession self.new.bank self.new.env self.new.place }
         ensures kept { OnErr result ((self.new.env ≡ self.old.env) × (self.new.place ≡ self.old.place)) }
         ensures grows { Grows self.old.bank self.new.bank }
@@ -368,7 +383,8 @@ impl<'b> Session<'b> {
     /// Tactics.
     fn run_tactics(&mut self, tactics: &[Tactic]) -> Result<String, SentenceFault>
         requires session { IsSession self.old.bank self.old.env self.old.place }
-        ensures answer { Runs string_bytes self.new.bank self.new.env self.new.place result (doing kernel_budget (env_of self.old.bank self.old.env) (place_of self.old.bank self.old.place) (grammar.tactics (map plain_tactic tactics.now))) }
+        ensures answer { Runs string_bytes self.new.bank self.new.env self.new.place result
+            (doing kernel_budget (env_of self.old.bank self.old.env) (place_of self.old.bank self.old.place) (grammar.tactics (map plain_tactic tactics.now))) }
         ensures keeps { IsSession self.new.bank self.new.env self.new.place }
         ensures kept { OnErr result ((self.new.env ≡ self.old.env) × (self.new.place ≡ self.old.place)) }
         ensures grows { Grows self.old.bank self.new.bank }
@@ -385,7 +401,8 @@ impl<'b> Session<'b> {
     /// `Qed`.
     fn run_qed<L: Ledger>(&mut self, steps: &mut Steps<L>) -> Result<String, SentenceFault>
         requires session { IsSession self.old.bank self.old.env self.old.place }
-        ensures answer { Runs string_bytes self.new.bank self.new.env self.new.place result (doing kernel_budget (env_of self.old.bank self.old.env) (place_of self.old.bank self.old.place) grammar.qed) }
+        ensures answer { Runs string_bytes self.new.bank self.new.env self.new.place result
+            (doing kernel_budget (env_of self.old.bank self.old.env) (place_of self.old.bank self.old.place) grammar.qed) }
         ensures keeps { IsSession self.new.bank self.new.env self.new.place }
         ensures kept { OnErr result ((self.new.env ≡ self.old.env) × (self.new.place ≡ self.old.place)) }
         ensures grows { Grows self.old.bank self.new.bank }
@@ -412,7 +429,8 @@ impl<'b> Session<'b> {
     ) -> Result<String, SentenceFault>
         requires session { IsSession self.old.bank self.old.env self.old.place }
         requires shallow { IsShallow (plain_sentence sentence.now) }
-        ensures answer { Runs string_bytes self.new.bank self.new.env self.new.place result (doing kernel_budget (env_of self.old.bank self.old.env) (place_of self.old.bank self.old.place) (plain_sentence sentence.now)) }
+        ensures answer { Runs string_bytes self.new.bank self.new.env self.new.place result
+            (doing kernel_budget (env_of self.old.bank self.old.env) (place_of self.old.bank self.old.place) (plain_sentence sentence.now)) }
         ensures keeps { IsSession self.new.bank self.new.env self.new.place }
         ensures kept { OnErr result ((self.new.env ≡ self.old.env) × (self.new.place ≡ self.old.place)) }
         ensures grows { Grows self.old.bank self.new.bank }

@@ -115,7 +115,8 @@ pub(crate) fn resolve(
     requires env { IsEnv bank.old env.now }
     requires binders { AllByRecursion (HasName bank.old) binders.old.items }
     requires shallow { length binders.old.items + nesting (plain_surface surface.now) ≤ 200 }
-    ensures answer { IfOk result (λ o. IsMeant bank.new o (resolved (env_of bank.old env.now) (scope_of bank.old binders.old.items) (plain_surface surface.now))) }
+    ensures answer { IfOk result
+        (λ o. IsMeant bank.new o (resolved (env_of bank.old env.now) (scope_of bank.old binders.old.items) (plain_surface surface.now))) }
     ensures kept { OnOk result (binders.new.items ≡ binders.old.items) }
     ensures grows { Grows bank.old bank.new }
 {
@@ -153,7 +154,10 @@ fn product(
     requires env { IsEnv bank.old env.now }
     requires binders { AllByRecursion (HasName bank.old) binders.old.items }
     requires shallow { length binders.old.items + suc (max (nesting (plain_surface kind.now)) (nesting (plain_surface rest.now))) ≤ 200 }
-    ensures answer { IfOk result (λ o. IsMeant bank.new o (product_of text.now (resolved (env_of bank.old env.now) (scope_of bank.old binders.old.items) (plain_surface kind.now)) (resolved (env_of bank.old env.now) (text.now ∷ scope_of bank.old binders.old.items) (plain_surface rest.now)))) }
+    ensures answer { IfOk result
+        (λ o. IsMeant bank.new o
+        (product_of text.now (resolved (env_of bank.old env.now) (scope_of bank.old binders.old.items) (plain_surface kind.now))
+        (resolved (env_of bank.old env.now) (text.now ∷ scope_of bank.old binders.old.items) (plain_surface rest.now)))) }
     ensures kept { OnOk result (binders.new.items ≡ binders.old.items) }
     ensures grows { Grows bank.old bank.new }
 {
@@ -182,7 +186,9 @@ fn resolve_under(
     requires binders { AllByRecursion (HasName bank.old) binders.old.items }
     requires name { HasName bank.old name }
     requires shallow { suc (length binders.old.items) + nesting (plain_surface surface.now) ≤ 200 }
-    ensures answer { IfOk result (λ o. IsMeant bank.new o (resolved (env_of bank.old env.now) (text_of bank.old name ∷ scope_of bank.old binders.old.items) (plain_surface surface.now))) }
+    ensures answer { IfOk result
+        (λ o. IsMeant bank.new o
+        (resolved (env_of bank.old env.now) (text_of bank.old name ∷ scope_of bank.old binders.old.items) (plain_surface surface.now))) }
     ensures kept { OnOk result (binders.new.items ≡ binders.old.items) }
     ensures grows { Grows bank.old bank.new }
 {

@@ -53,7 +53,8 @@ fn introduce(
     requires kind { HasTerm bank.old kind }
     requires rest { HasTerm bank.old rest }
     requires new { is_listed (names_of (context_of bank.old context)) (text_of bank.old name) ≡ false }
-    ensures answer { Proves bank.new result (introduced (text_of bank.old name) (context_of bank.old context) (Tree.Prod [] (tree_of bank.old kind) (tree_of bank.old rest))) }
+    ensures answer { Proves bank.new result
+        (introduced (text_of bank.old name) (context_of bank.old context) (Tree.Prod [] (tree_of bank.old kind) (tree_of bank.old rest))) }
     ensures grows { Grows bank.old bank.new }
 {
     let conclusion = open(bank, rest, name)?;
@@ -100,7 +101,8 @@ fn known(
     requires hypotheses { HasContext bank.now hypotheses.now }
     requires few { length hypotheses.now ≤ 200 }
     requires name { HasName bank.now name }
-    ensures { Knows bank.now (context_of bank.now hypotheses.now) result (known_as (env_of bank.now env.now) (context_of bank.now hypotheses.now) (text_of bank.now name)) }
+    ensures { Knows bank.now (context_of bank.now hypotheses.now) result
+        (known_as (env_of bank.now env.now) (context_of bank.now hypotheses.now) (text_of bank.now name)) }
 {
     if let Some(index) = position(bank, hypotheses, name) {
         let number = (hypotheses.len() - 1 - index) as u32;
@@ -123,7 +125,8 @@ fn abstraction(
     requires statement { HasTerm bank.old statement }
     requires hypotheses { HasContext bank.old hypotheses.now }
     requires term { HasTerm bank.old term }
-    ensures answer { IfOk result (λ t. IsTerm bank.new t (abstraction (names_of (context_of bank.old hypotheses.now)) (tree_of bank.old statement) (tree_of bank.old term))) }
+    ensures answer { IfOk result
+        (λ t. IsTerm bank.new t (abstraction (names_of (context_of bank.old hypotheses.now)) (tree_of bank.old statement) (tree_of bank.old term))) }
     ensures grows { Grows bank.old bank.new }
 {
     let Some((first, others)) = hypotheses.split_first() else {
@@ -148,7 +151,8 @@ fn finished(
     requires statement { HasTerm bank.old statement }
     requires hypotheses { HasContext bank.old hypotheses.now }
     requires leaf { HasParts bank.old leaf }
-    ensures answer { IfOk result (λ t. IsTerm bank.new t (abstraction (names_of (context_of bank.old hypotheses.now)) (tree_of bank.old statement) (node_tree bank.old leaf))) }
+    ensures answer { IfOk result
+        (λ t. IsTerm bank.new t (abstraction (names_of (context_of bank.old hypotheses.now)) (tree_of bank.old statement) (node_tree bank.old leaf))) }
     ensures grows { Grows bank.old bank.new }
 {
     let leaf = bank.make(leaf)?;
@@ -170,7 +174,9 @@ fn exact(
     requires hypotheses { HasContext bank.old hypotheses.now }
     requires conclusion { HasTerm bank.old conclusion }
     requires reaches { Introduced (tree_of bank.old statement) (context_of bank.old hypotheses.now) (tree_of bank.old conclusion) }
-    ensures answer { Proves bank.new result (exactly (context_of bank.old hypotheses.now) (tree_of bank.old conclusion) (known_as (env_of bank.old env.now) (context_of bank.old hypotheses.now) text.now)) }
+    ensures answer { Proves bank.new result
+        (exactly (context_of bank.old hypotheses.now) (tree_of bank.old conclusion)
+        (known_as (env_of bank.old env.now) (context_of bank.old hypotheses.now) text.now)) }
     ensures grows { Grows bank.old bank.new }
 {
     let name = bank.name(text)?;

@@ -117,7 +117,8 @@ fn reads(bank: &Bank<'_>, names: &mut Vec<NameId>, context: &[Hypothesis]) -> Re
     requires names { AllByRecursion (HasName bank.now) names.old.items }
     requires context { HasContext bank.now context.now }
     ensures has { AllByRecursion (HasName bank.now) names.new.items }
-    ensures reads { IfOk result (λ b. IsTrue b → Reads (map (text_of bank.now) names.old.items) (context_of bank.now context.now) (map (text_of bank.now) names.new.items)) }
+    ensures reads { IfOk result
+        (λ b. IsTrue b → Reads (map (text_of bank.now) names.old.items) (context_of bank.now context.now) (map (text_of bank.now) names.new.items)) }
 {
     for hypothesis in context {
         if hypothesis.body.is_some()

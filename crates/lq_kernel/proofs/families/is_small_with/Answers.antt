@@ -8,9 +8,9 @@ not_zero zero l = absurd (omega (arith, l))
 not_zero (suc n) l = eqb-suc-zero n
 
 pub returns-then-before-eq0 : goal.returns-then-before-eq0
-returns-then-before-eq0 c found e = c.all_proofs.ensures ∙ small_first c.args.row.now found (omega (arith, e, c.if-before-eq0.true))
+returns-then-before-eq0 c found e = c.all_proofs.ensures ∙ small_first c.args.domains.now found (omega (arith, e, c.if-before-eq0.true))
 
 pub returns-else-before-eq0 : goal.returns-else-before-eq0
 returns-else-before-eq0 c found e =
     let some : 0 < c.args.before = omega (arith, c.if-before-eq0.false) in
-    not_zero c.args.before some ∙ small_later c.args.row.now found (omega (arith, e, some))
+    not_zero c.args.before some ∙ small_later c.args.domains.now found (omega (arith, e, some))

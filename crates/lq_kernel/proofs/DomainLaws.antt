@@ -1,4 +1,4 @@
--- Rows of products: their sorts, and those of their domains.
+-- Telescopes: their sorts, and those of their domains.
 use Rattle.std.proofs.Common.{◌≡◌, ◌∙◌, ◌+◌, ◌<◌, ◌≤◌, ℕ, zero, suc, refl, sym, ap, subst, arith, append_assoc, append-nil, List, [], ◌∷◌, ◌++◌, drop, length, get_or, Option, Some, None, Result, Ok, Err, true, false}
 use Rattle.std.proofs.lemmas.List.{drop_more, drop_all}
 use Rattle.std.specs.Prelude.{OnOk}
@@ -17,13 +17,13 @@ use Rattle.lq_terms.specs.Terms.{Terms}
 use Rattle.lq_calculus.specs.Contraction.{head_form, contract}
 use Rattle.lq_calculus.specs.Declarations.{Env as Environment, all_proofs}
 use Rattle.lq_calculus.specs.Typing.{product_sort, is_product, is_above, first_big}
-use Rattle.lq_calculus.specs.Checking.{Kernel, fitting, as_sort, needed_form, infer, sort_of, row_sorts}
+use Rattle.lq_calculus.specs.Checking.{Kernel, fitting, as_sort, needed_form, infer, sort_of, domain_sorts}
 use Rattle.lq_calculus.proofs.ConvSound.{done_gives}
 use Rattle.lq_calculus.proofs.DeclareSound.{gives_answer}
 use Rattle.lq_kernel.specs.declared.faults.KernelFault.{KernelFault}
 use Rattle.lq_kernel.specs.Answers.{Refuses}
 use Rattle.lq_kernel.specs.Closed.{IsScoped}
-use Rattle.lq_kernel.specs.Steps.{Sorts, IsRow, inside_of}
+use Rattle.lq_kernel.specs.Steps.{Sorts, IsSplit, inside_of}
 use Rattle.lq_kernel.proofs.Goes.{goes_then, goes_tick}
 use Rattle.lq_kernel.proofs.Cycle.{sorts_stop, infer_tick, ticked, out_of_ticks, prod_domain_stops, prod_rest_stops, prod_comes}
 
@@ -62,63 +62,63 @@ falls f b a left h = subst (λ o. left_of o ≤ b) (h (suc b) (omega arith)) (wi
 
 module _ (E : Environment) (G : Context) (x : Name) (A B : Tree) (b c d : ℕ) (s : Universe) where
   row_one : (n : ℕ) → c < n → ComesTo (λ n. sort_of E n G A) c (done s d)
-      → row_sorts E (suc n) G (Prod x A B) ≡ s ∷ row_sorts E n (G ++ (record { name = fresh G x; body = None; kind = A } ∷ [])) (opened (fresh G x) B)
-  unfolding row_sorts under
+      → domain_sorts E (suc n) G (Prod x A B) ≡ s ∷ domain_sorts E n (G ++ (record { name = fresh G x; body = None; kind = A } ∷ [])) (opened (fresh G x) B)
+  unfolding domain_sorts under
   row_one n l h =
-      ap (λ o. elim o as (λ z. List Universe) [ None ↦ [] | Some u ↦ u ∷ row_sorts E n (G ++ (record { name = fresh G x; body = None; kind = A } ∷ [])) (opened (fresh G x) B) ])
+      ap (λ o. elim o as (λ z. List Universe) [ None ↦ [] | Some u ↦ u ∷ domain_sorts E n (G ++ (record { name = fresh G x; body = None; kind = A } ∷ [])) (opened (fresh G x) B) ])
       (gives_answer (sort_of E n G A) s (done_gives c (sort_of E n G A) s d (h n l)))
 
   pub row_next : (old all : List Universe) → b ≡ c + 1 → ComesTo (λ n. sort_of E n G A) c (done s d)
-      → ((n : ℕ) → d < n → all ≡ (old ++ s ∷ []) ++ row_sorts E n (G ++ (record { name = fresh G x; body = None; kind = A } ∷ [])) (opened (fresh G x) B))
-      → (n : ℕ) → b < n → all ≡ old ++ row_sorts E n G (Prod x A B)
+      → ((n : ℕ) → d < n → all ≡ (old ++ s ∷ []) ++ domain_sorts E n (G ++ (record { name = fresh G x; body = None; kind = A } ∷ [])) (opened (fresh G x) B))
+      → (n : ℕ) → b < n → all ≡ old ++ domain_sorts E n G (Prod x A B)
   row_next old all e h k zero l = absurd (omega arith)
   row_next old all e h k (suc n) l =
-      k n (let m = falls (λ n. sort_of E n G A) c s d h in omega arith) ∙ append_assoc old (s ∷ []) (row_sorts E n (G ++ (record { name = fresh G x; body = None; kind = A } ∷ [])) (opened (fresh G x) B))
+      k n (let m = falls (λ n. sort_of E n G A) c s d h in omega arith) ∙ append_assoc old (s ∷ []) (domain_sorts E n (G ++ (record { name = fresh G x; body = None; kind = A } ∷ [])) (opened (fresh G x) B))
       ∙ ap (λ z. old ++ z) (sym (row_one n (omega arith) h))
 
-pub row_none : (E : Environment) (n : ℕ) (G : Context) (T : Tree) → is_product T ≡ false → row_sorts E n G T ≡ []
-unfolding row_sorts is_product
+pub row_none : (E : Environment) (n : ℕ) (G : Context) (T : Tree) → is_product T ≡ false → domain_sorts E n G T ≡ []
+unfolding domain_sorts is_product
 row_none E zero G T e = refl
 row_none E (suc n) G (Prod x A B) e = absurd cc
 row_none E (suc n) G _ e = refl
 
-pub row_nothing : (r : Result Universe KernelFault) (E : Environment) (G : Context) (T : Tree) (sorts : List Universe) (b : ℕ) → is_product T ≡ false → OnOk r ((n : ℕ) → b < n → sorts ≡ sorts ++ row_sorts E n G T)
+pub row_nothing : (r : Result Universe KernelFault) (E : Environment) (G : Context) (T : Tree) (sorts : List Universe) (b : ℕ) → is_product T ≡ false → OnOk r ((n : ℕ) → b < n → sorts ≡ sorts ++ domain_sorts E n G T)
 row_nothing (Ok s) E G T sorts b e = λ n l. sym (ap (λ z. sorts ++ z) (row_none E n G T e) ∙ append-nil sorts)
 row_nothing (Err k) E G T sorts b e = tt
 
 -- the first sort that is too high
-module _ (s : Universe) (row : List Universe) (i : ℕ) (a : Universe) where
-  big_at : i < length row → first_big s (i + 1) (drop i row) ≡ elim (is_above (get_or row i a) s) [ true ↦ Some (i + 1) | false ↦ first_big s (i + 1 + 1) (drop (i + 1) row) ]
+module _ (s : Universe) (domains : List Universe) (i : ℕ) (a : Universe) where
+  big_at : i < length domains → first_big s (i + 1) (drop i domains) ≡ elim (is_above (get_or domains i a) s) [ true ↦ Some (i + 1) | false ↦ first_big s (i + 1 + 1) (drop (i + 1) domains) ]
   unfolding first_big
-  big_at l = let e : suc (i + 1) ≡ i + 1 + 1 = omega arith in ap (first_big s (i + 1)) (drop_more row i a l) ∙ ap (λ k. elim (is_above (get_or row i a) s) [ true ↦ Some (i + 1) | false ↦ first_big s k (drop (i + 1) row) ]) e
+  big_at l = let e : suc (i + 1) ≡ i + 1 + 1 = omega arith in ap (first_big s (i + 1)) (drop_more domains i a l) ∙ ap (λ k. elim (is_above (get_or domains i a) s) [ true ↦ Some (i + 1) | false ↦ first_big s k (drop (i + 1) domains) ]) e
 
-  pub big_here : i < length row → first_big s 1 row ≡ first_big s (i + 1) (drop i row) → is_above (get_or row i a) s ≡ true → Some (i + 1) ≡ first_big s 1 row
-  big_here l so_far e = sym (so_far ∙ big_at l ∙ ap (λ b. elim b as (λ z. Option ℕ) [ true ↦ Some (i + 1) | false ↦ first_big s (i + 1 + 1) (drop (i + 1) row) ]) e)
+  pub big_here : i < length domains → first_big s 1 domains ≡ first_big s (i + 1) (drop i domains) → is_above (get_or domains i a) s ≡ true → Some (i + 1) ≡ first_big s 1 domains
+  big_here l so_far e = sym (so_far ∙ big_at l ∙ ap (λ b. elim b as (λ z. Option ℕ) [ true ↦ Some (i + 1) | false ↦ first_big s (i + 1 + 1) (drop (i + 1) domains) ]) e)
 
-  pub big_later : i < length row → first_big s 1 row ≡ first_big s (i + 1) (drop i row) → is_above (get_or row i a) s ≡ false → first_big s 1 row ≡ first_big s (i + 1 + 1) (drop (i + 1) row)
-  big_later l so_far e = so_far ∙ big_at l ∙ ap (λ b. elim b as (λ z. Option ℕ) [ true ↦ Some (i + 1) | false ↦ first_big s (i + 1 + 1) (drop (i + 1) row) ]) e
+  pub big_later : i < length domains → first_big s 1 domains ≡ first_big s (i + 1) (drop i domains) → is_above (get_or domains i a) s ≡ false → first_big s 1 domains ≡ first_big s (i + 1 + 1) (drop (i + 1) domains)
+  big_later l so_far e = so_far ∙ big_at l ∙ ap (λ b. elim b as (λ z. Option ℕ) [ true ↦ Some (i + 1) | false ↦ first_big s (i + 1 + 1) (drop (i + 1) domains) ]) e
 
-pub big_nowhere : (s : Universe) (row : List Universe) (i : ℕ) → length row ≤ i → first_big s 1 row ≡ first_big s (i + 1) (drop i row) → None ≡ first_big s 1 row
+pub big_nowhere : (s : Universe) (domains : List Universe) (i : ℕ) → length domains ≤ i → first_big s 1 domains ≡ first_big s (i + 1) (drop i domains) → None ≡ first_big s 1 domains
 unfolding first_big
-big_nowhere s row i l so_far = sym (so_far ∙ ap (first_big s (i + 1)) (drop_all i row l))
+big_nowhere s domains i l so_far = sym (so_far ∙ ap (first_big s (i + 1)) (drop_all i domains l))
 
 -- whether all arguments are proofs
-module _ (row : List Universe) (i : ℕ) (a : Universe) where
-  proofs_at : i < length row → all_proofs (drop i row) ≡ all_proofs (get_or row i a ∷ drop (i + 1) row)
-  proofs_at l = ap all_proofs (drop_more row i a l)
+module _ (domains : List Universe) (i : ℕ) (a : Universe) where
+  proofs_at : i < length domains → all_proofs (drop i domains) ≡ all_proofs (get_or domains i a ∷ drop (i + 1) domains)
+  proofs_at l = ap all_proofs (drop_more domains i a l)
 
-  pub proof_not : (k : ℕ) → i < length row → all_proofs row ≡ all_proofs (drop i row) → get_or row i a ≡ Universe.Level k → false ≡ all_proofs row
+  pub proof_not : (k : ℕ) → i < length domains → all_proofs domains ≡ all_proofs (drop i domains) → get_or domains i a ≡ Universe.Level k → false ≡ all_proofs domains
   unfolding all_proofs
-  proof_not k l so_far e = sym (so_far ∙ proofs_at l ∙ ap (λ z. all_proofs (z ∷ drop (i + 1) row)) e)
+  proof_not k l so_far e = sym (so_far ∙ proofs_at l ∙ ap (λ z. all_proofs (z ∷ drop (i + 1) domains)) e)
 
-  pub proof_here : i < length row → all_proofs row ≡ all_proofs (drop i row) → get_or row i a ≡ Universe.Base → all_proofs row ≡ all_proofs (drop (i + 1) row)
+  pub proof_here : i < length domains → all_proofs domains ≡ all_proofs (drop i domains) → get_or domains i a ≡ Universe.Base → all_proofs domains ≡ all_proofs (drop (i + 1) domains)
   unfolding all_proofs
-  proof_here l so_far e = so_far ∙ proofs_at l ∙ ap (λ z. all_proofs (z ∷ drop (i + 1) row)) e
+  proof_here l so_far e = so_far ∙ proofs_at l ∙ ap (λ z. all_proofs (z ∷ drop (i + 1) domains)) e
 
-pub proofs_end : (row : List Universe) (i : ℕ) → length row ≤ i → all_proofs row ≡ all_proofs (drop i row) → true ≡ all_proofs row
+pub proofs_end : (domains : List Universe) (i : ℕ) → length domains ≤ i → all_proofs domains ≡ all_proofs (drop i domains) → true ≡ all_proofs domains
 unfolding all_proofs
-proofs_end row i l so_far = sym (so_far ∙ ap all_proofs (drop_all i row l))
+proofs_end domains i l so_far = sym (so_far ∙ ap all_proofs (drop_all i domains l))
 
--- the rest of a row of products has one loose bound variable at most
-pub rest_scoped : (bank : Terms) (t : TermId) (x : NameId) (kind rest : TermId) → IsScoped bank 0 t → IsRow bank (x, kind, rest) t → IsScoped bank 1 rest
-rest_scoped bank t x kind rest h row = record { has = row.rest; within = (subst (Within 0) row.is h.within).1 }
+-- the rest of a telescope has one loose bound variable at most
+pub rest_scoped : (bank : Terms) (t : TermId) (x : NameId) (kind rest : TermId) → IsScoped bank 0 t → IsSplit bank (x, kind, rest) t → IsScoped bank 1 rest
+rest_scoped bank t x kind rest h domains = record { has = domains.rest; within = (subst (Within 0) domains.is h.within).1 }

@@ -4,7 +4,7 @@ use Rattle.lq_terms.specs.declared.nodes.TermId.{TermId}
 use Rattle.lq_terms.specs.declared.nodes.Node.{Node}
 use Rattle.lq_terms.specs.Terms.{Terms, node_tree}
 use Rattle.lq_calculus.specs.Typing.{is_product}
-use Rattle.lq_kernel.proofs.rows.as_row.Goals as goal
+use Rattle.lq_kernel.proofs.telescopes.product_parts.Goals as goal
 
 no_product : (bank : Terms) (n : Node) → ((x : NameId) (a b : TermId) → ¬ (n ≡ Node.Prod x a b)) → is_product (node_tree bank n) ≡ false
 unfolding is_product

@@ -1,4 +1,4 @@
-//! Rows of products: the sort of one, and the sorts of its domains.
+//! Telescopes: the sort of one, and the sorts of its domains.
 
 ghost use Rattle.std.specs.Prelude.{◌≡◌, ◌+◌, ◌<◌, [], ◌∷◌, ◌++◌, ℕ, OnOk};
 ghost use Rattle.lq_trees.specs.Tree.{Tree, Context as TreeContext, Hypothesis as TreeHypothesis};
@@ -7,10 +7,10 @@ ghost use Rattle.lq_terms.specs.Terms.{HasTerm, tree_of, Grows};
 ghost use Rattle.lq_terms.specs.Contexts.{context_of, hypothesis_of};
 ghost use Rattle.lq_calculus.specs.Declarations.{Env as Environment, all_proofs};
 ghost use Rattle.lq_calculus.specs.Typing.{is_above, first_big};
-ghost use Rattle.lq_calculus.specs.Checking.{sort_of, row_sorts};
+ghost use Rattle.lq_calculus.specs.Checking.{sort_of, domain_sorts};
 ghost use Rattle.lq_env.specs.Environments.{IsEnv, env_of};
 ghost use Rattle.lq_kernel.specs.Closed.{IsScoped, IsHypothesis, IsContext};
-ghost use Rattle.lq_kernel.specs.Steps.{Sorts, IsRowOr};
+ghost use Rattle.lq_kernel.specs.Steps.{Sorts, IsSplitOr};
 
 use crate::faults::KernelFault;
 use crate::forms::product_sort;
@@ -22,9 +22,9 @@ use lq_trees::Sort;
 use std::sync::ledger::Ledger;
 
 /// The binder, the domain and the rest of a term that is a product.
-fn as_row(bank: &Bank<'_>, term: TermId) -> Option<(NameId, TermId, TermId)>
+fn product_parts(bank: &Bank<'_>, term: TermId) -> Option<(NameId, TermId, TermId)>
     requires { HasTerm bank.now term }
-    ensures { IsRowOr bank.now result term }
+    ensures { IsSplitOr bank.now result term }
 {
     match bank.node(term) {
         Node::Prod(binder, kind, rest) => Some((*binder, *kind, *rest)),
@@ -32,10 +32,10 @@ fn as_row(bank: &Bank<'_>, term: TermId) -> Option<(NameId, TermId, TermId)>
     }
 }
 
-/// The sort of a type, which must have one. The sorts of the domains of its row of products are put behind
-/// the others, at no further tick. It calls itself as often as the row has domains.
-#[cycle(rows)]
-pub(crate) fn row_sort<L: Ledger>(
+/// The sort of a type, which must have one. The sorts of the domains of its telescope are put behind
+/// the others, at no further tick. It calls itself as often as the telescope has domains.
+#[cycle(telescopes)]
+pub(crate) fn telescope_sort<L: Ledger>(
     work: &mut Work<'_, '_>,
     env: &Env,
     context: &mut Context,
@@ -49,9 +49,9 @@ pub(crate) fn row_sort<L: Ledger>(
     ensures answer { (E : Environment) (G : TreeContext) (T : Tree) → env_of work.old.bank.now env.now ≡ E → context_of work.old.bank.now context.old ≡ G
         → tree_of work.old.bank.now term ≡ T
         → Sorts work.new.bank.now result (λ n. sort_of E n G T) work.old.ticks.now.left work.new.ticks.now.left }
-    ensures row { (E : Environment) (G : TreeContext) (T : Tree) → env_of work.old.bank.now env.now ≡ E → context_of work.old.bank.now context.old ≡ G
+    ensures domains { (E : Environment) (G : TreeContext) (T : Tree) → env_of work.old.bank.now env.now ≡ E → context_of work.old.bank.now context.old ≡ G
         → tree_of work.old.bank.now term ≡ T
-        → OnOk result ((n : ℕ) → work.old.ticks.now.left < n → sorts.new.items ≡ sorts.old.items ++ row_sorts E n G T) }
+        → OnOk result ((n : ℕ) → work.old.ticks.now.left < n → sorts.new.items ≡ sorts.old.items ++ domain_sorts E n G T) }
     ensures kept { context.new ≡ context.old }
     ensures same_bank { work.new.bank.ghost_name ≡ work.old.bank.ghost_name }
     ensures same_ticks { work.new.ticks.ghost_name ≡ work.old.ticks.ghost_name }
@@ -59,7 +59,7 @@ pub(crate) fn row_sort<L: Ledger>(
     ensures budget { work.new.ticks.now.left + work.new.ticks.now.spent ≡ work.old.ticks.now.left + work.old.ticks.now.spent }
     ensures counted { steps.new + work.old.ticks.now.spent ≡ steps.old + work.new.ticks.now.spent }
 {
-    let Some((binder, kind, rest)) = as_row(work.bank, term) else {
+    let Some((binder, kind, rest)) = product_parts(work.bank, term) else {
         return sort_in(work, env, context, term, steps);
     };
     if !work.ticks.take(steps) {
@@ -68,13 +68,13 @@ pub(crate) fn row_sort<L: Ledger>(
     let domain = sort_in(work, env, context, kind, steps)?;
     sorts.push(domain)?;
     let variable = variable(work.bank, context, binder, None, kind)?;
-    let last = row_inside(work, env, context, variable, rest, sorts, steps)?;
+    let last = telescope_inside(work, env, context, variable, rest, sorts, steps)?;
     Ok(product_sort(domain, last))
 }
 
 /// The same of what stands under a binder, with that hypothesis for the binder's variable.
-#[cycle(rows)]
-fn row_inside<L: Ledger>(
+#[cycle(telescopes)]
+fn telescope_inside<L: Ledger>(
     work: &mut Work<'_, '_>,
     env: &Env,
     context: &mut Context,
@@ -91,10 +91,10 @@ fn row_inside<L: Ledger>(
         → context_of work.old.bank.now context.old ≡ G → hypothesis_of work.old.bank.now variable ≡ H
         → tree_of work.old.bank.now rest ≡ B → Sorts work.new.bank.now result (λ n. sort_of E n (G ++ H ∷ []) (opened H.name B)) work.old.ticks.now.left
         work.new.ticks.now.left }
-    ensures row { (E : Environment) (G : TreeContext) (H : TreeHypothesis) (B : Tree) → env_of work.old.bank.now env.now ≡ E
+    ensures domains { (E : Environment) (G : TreeContext) (H : TreeHypothesis) (B : Tree) → env_of work.old.bank.now env.now ≡ E
         → context_of work.old.bank.now context.old ≡ G → hypothesis_of work.old.bank.now variable ≡ H
         → tree_of work.old.bank.now rest ≡ B → OnOk result ((n : ℕ) → work.old.ticks.now.left < n
-        → sorts.new.items ≡ sorts.old.items ++ row_sorts E n (G ++ H ∷ []) (opened H.name B)) }
+        → sorts.new.items ≡ sorts.old.items ++ domain_sorts E n (G ++ H ∷ []) (opened H.name B)) }
     ensures kept { context.new ≡ context.old }
     ensures same_bank { work.new.bank.ghost_name ≡ work.old.bank.ghost_name }
     ensures same_ticks { work.new.ticks.ghost_name ≡ work.old.ticks.ghost_name }
@@ -104,7 +104,7 @@ fn row_inside<L: Ledger>(
 {
     let term = open(work.bank, rest, variable.name)?;
     context.push(variable)?;
-    let sort = row_sort(work, env, context, term, sorts, steps);
+    let sort = telescope_sort(work, env, context, term, sorts, steps);
     context.pop();
     sort
 }
@@ -123,11 +123,11 @@ fn is_above(sort: Sort, other: Sort) -> bool
 }
 
 /// The number, counted from 1, of the first argument whose sort is above that of a family.
-pub(crate) fn first_big(family: Sort, row: &[Sort]) -> Option<u64>
-    ensures { result ≡ first_big family 1 row.now }
+pub(crate) fn first_big(family: Sort, domains: &[Sort]) -> Option<u64>
+    ensures { result ≡ first_big family 1 domains.now }
 {
     let mut number = 0;
-    for sort in row {
+    for sort in domains {
         number += 1;
         if is_above(*sort, family) {
             return Some(number);
@@ -137,10 +137,10 @@ pub(crate) fn first_big(family: Sort, row: &[Sort]) -> Option<u64>
 }
 
 /// Whether each argument is a proof, by their sorts.
-pub(crate) fn all_proofs(row: &[Sort]) -> bool
-    ensures { result ≡ all_proofs row.now }
+pub(crate) fn all_proofs(domains: &[Sort]) -> bool
+    ensures { result ≡ all_proofs domains.now }
 {
-    for sort in row {
+    for sort in domains {
         if let Sort::Level(_) = sort {
             return false;
         }

@@ -2,7 +2,7 @@ use Rattle.std.proofs.Common.{◌≡◌, ◌∙◌, ℕ, refl, sym, ap, ap₂, f
 use Rattle.std.specs.Prelude.{nat_lt}
 use Rattle.lq_trees.specs.declared.Sort.{Sort as Universe}
 use Rattle.lq_calculus.specs.Typing.{is_above}
-use Rattle.lq_kernel.proofs.rows.is_above.Goals as goal
+use Rattle.lq_kernel.proofs.telescopes.is_above.Goals as goal
 
 above_base : (s : Universe) → is_above Universe.Base s ≡ false
 unfolding is_above
