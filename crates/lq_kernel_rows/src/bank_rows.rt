@@ -159,21 +159,31 @@ fn puts(bank: &mut Bank<'_>, row: Change<'_>) -> Result<&'static str, RowFault>
     ensures { Grows bank.old bank.new }
 {
     let (below, rest) = parted(row.head, " ")?;
-    let (name, value) = parted(rest, " ")?;
     let below = number(below)?;
-    let value = build(bank, value)?;
+    let hypothesis = hypothesis_of(bank, rest)?;
     let term = build(bank, row.term)?;
-    let name = bank.name(name)?;
+    let value = hypothesis.kind;
     if below > 1_000 || fits(bank, term) != Fit::Fits || fits(bank, value) != Fit::Fits {
         return Err(RowFault::Unwritten);
     }
-    let hypothesis = Hypothesis {
-        name,
-        body: None,
-        kind: value,
-    };
     let answer = put_below(bank, term, below, hypothesis, value)?;
     compared(bank, Ok(answer), row.wanted)
+}
+
+/// A hypothesis's name and the term that is put in its place, which stands as its type too.
+fn hypothesis_of(bank: &mut Bank<'_>, text: &str) -> Result<Hypothesis, RowFault>
+    ensures kind { IfOk result (λ h. IsLow bank.new h.kind) }
+    ensures name { IfOk result (λ h. HasName bank.new h.name) }
+    ensures grows { Grows bank.old bank.new }
+{
+    let (name, value) = parted(text, " ")?;
+    let kind = build(bank, value)?;
+    let name = bank.name(name)?;
+    Ok(Hypothesis {
+        name,
+        body: None,
+        kind,
+    })
 }
 
 /// Places below a number, with commas between them.
@@ -230,9 +240,22 @@ fn spreads(bank: &mut Bank<'_>, row: Change<'_>) -> Result<&'static str, RowFaul
 fn imported(bank: &Bank<'_>, other: &mut Bank<'_>, term: TermId) -> Result<bool, RowFault>
     requires { HasTerm bank.now term }
 {
-    let here = other.import(bank, term)?;
     let copy = bank.copy()?;
-    let there = other.import(&copy, term)?;
+    imported_twice(bank, &copy, other, term)
+}
+
+/// Takes a term into another bank, from this one and from a bank that is the same.
+fn imported_twice(
+    bank: &Bank<'_>,
+    copy: &Bank<'_>,
+    other: &mut Bank<'_>,
+    term: TermId,
+) -> Result<bool, RowFault>
+    requires here { HasTerm bank.now term }
+    requires there { HasTerm copy.now term }
+{
+    let here = other.import(bank, term)?;
+    let there = other.import(copy, term)?;
     let whole = measure(other, here) == measure(bank, term);
     Ok(whole && same(other, here, there))
 }

@@ -23,7 +23,7 @@ use crate::section::answers;
 use lq_words::RowFault;
 use std::alloc::Global;
 use std::thread::Threads;
-use std::{io, thread};
+use std::{io, mem, thread};
 
 /// The line that begins a section on another thread.
 const THREAD: &str = "start on a thread";
@@ -46,16 +46,26 @@ fn run(rt: &(impl Print + Threads + Alloc<A = Global>), section: String) -> io::
     show(rt, answers(alloc, &section))
 }
 
+/// Takes a line into the section, which is run first where the line begins another.
+fn take_line(
+    rt: &(impl Print + Threads + Alloc<A = Global>),
+    section: &mut String,
+    line: &str,
+) -> io::Result<()> {
+    if line.starts_with("start") {
+        let ended = mem::replace(section, String::new(rt.alloc()));
+        run(rt, ended)?;
+    }
+    section.push_str(line)?;
+    section.push('\n')?;
+    Ok(())
+}
+
 fn main(rt: HostRuntime) -> io::Result<()> {
     let mut section = String::new(rt.alloc());
     for line in rt.lines(rt.alloc()) {
         let line = line?;
-        if line.starts_with("start") {
-            run(&rt, section)?;
-            section = String::new(rt.alloc());
-        }
-        section.push_str(&line)?;
-        section.push('\n')?;
+        take_line(&rt, &mut section, &line)?;
     }
     run(&rt, section)
 }
