@@ -1,5 +1,5 @@
 -- A store with one variable more, or another type, lies in a bank that has what is new.
-use Rattle.std.proofs.Common.{◌≡◌, ℕ, zero, suc, List, [], ◌∷◌, ◌++◌}
+use Rattle.std.proofs.Common.{ℕ, zero, suc, List, [], ◌∷◌}
 use Rattle.std.specs.List.{AllByRecursion}
 use Rattle.lq_terms.specs.declared.nodes.TermId.{TermId}
 use Rattle.lq_terms.specs.Terms.{Terms, HasTerm}

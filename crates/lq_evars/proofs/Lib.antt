@@ -14,3 +14,12 @@ pub mod Standing
 pub mod Stepping
 pub mod Asking
 pub mod Having
+pub mod CostLaws
+pub mod ScopeLaws
+pub mod HeadLaws
+pub mod ScopeReads
+pub mod Links
+pub mod Formed
+pub mod Comparings
+pub mod Walks
+pub mod Parts

@@ -1,10 +1,13 @@
 //! The store of existential variables.
 #![tactic(auto)]
 
+mod comparing;
 mod copying;
 mod filling;
+mod labels;
 mod reading;
 mod rebuilding;
+mod scopes;
 mod store;
 mod work;
 

@@ -9,13 +9,15 @@ ghost use Rattle.lq_terms.specs.declared.nodes.TermId.{TermId};
 ghost use Rattle.lq_trees.specs.Index.{Within};
 ghost use Rattle.lq_terms.specs.Terms.{HasTerm, Grows};
 ghost use Rattle.lq_solving.specs.Stores.{Variable as TreeVariable, no_variables, count, value, named_variable, new_variable, with_kind};
-ghost use Rattle.lq_solving.specs.Stores.{values_of, assigned, read_fitting};
+ghost use Rattle.lq_solving.specs.Stores.{values_of, assigned, read_fitting, reads_same};
 ghost use Rattle.lq_solving.specs.Kept.{IsStore, IsVariable, IsValue, IsOver, StandsIn};
 ghost use Rattle.lq_evars.specs.declared.store.Variable.{Variable};
 ghost use Rattle.lq_evars.specs.Places.{Places, store_of, variable_of, value_at, number_of, HasStore, IsOwn, IsOwnOr, IsNewName, body_at};
 ghost use Rattle.lq_evars.specs.Places.{GivesMore, Makes, one_more, one_given, kind_changed};
 ghost use Rattle.lq_evars.specs.Reading.{Answers, Gives};
+ghost use Rattle.lq_evars.specs.Closures.{IsTermOver};
 
+use crate::comparing::reads_alike;
 use crate::copying::copied_all;
 use crate::filling::is_over;
 use crate::reading::read_near;
@@ -282,6 +284,19 @@ impl Store {
             Fit::TooLarge => Err(StoreFault::TooLarge),
             Fit::TooDeep => Err(StoreFault::TooDeep),
         }
+    }
+
+    /// Whether two terms as they read are equal but for the names of binders, however large they are. Nothing is built, and the only
+    /// refusal is for want of memory: what is left to compare stands on a stack on the heap. Parts that stand for themselves are
+    /// compared in one step. The time is at most in proportion to what both terms as they read have of nodes and of variables on the way.
+    pub fn same(&self, bank: &Bank<'_>, left: TermId, right: TermId) -> Result<bool, NoMemory>
+        requires store { HasStore bank.now self.now }
+        requires kept { IsStore (store_of bank.now self.now) }
+        requires left { IsTermOver bank.now (store_of bank.now self.now).variables left }
+        requires right { IsTermOver bank.now (store_of bank.now self.now).variables right }
+        ensures { IfOk result (λ b. b ≡ reads_same (store_of bank.now self.now) (tree_of bank.now left) (tree_of bank.now right)) }
+    {
+        reads_alike(bank, self, left, right)
     }
 
     /// A value for a variable that has none: a body that does not lead back to the variable, and as it reads holds hypotheses of
