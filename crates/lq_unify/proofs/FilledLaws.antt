@@ -1,0 +1,67 @@
+-- Closed terms put in for hypotheses.
+use Rattle.std.proofs.Common.{◌≡◌, ◌+◌, ◌∙◌, ℕ, true, refl, sym, ap, ap₂, arith, List, Option, Some, None}
+use Rattle.lq_trees.specs.Tree.{Name, Tree, Trees, none, more, value_of}
+use Rattle.lq_trees.specs.Tree.Tree.{Rel, Var, Sort, Prod, Lam, Let, App, Const, Ind, Ctor, Elim, Evar}
+use Rattle.lq_trees.specs.Change.{lift, lift_each, put, standing}
+use Rattle.lq_trees.specs.Index.{Within, EachWithin}
+use Rattle.lq_trees.proofs.FillLaws.{let_is, lifted_below}
+use Rattle.lq_solving.proofs.LiftLaws.{put_each}
+use Rattle.lq_solving.specs.Unification.{two, three}
+use Rattle.lq_unify.specs.Solutions.{is_barred, solution, solution_each, or_itself}
+
+-- a term whose bound variables lie below m is not raised from m on
+mutual
+  pub lift_closed : (a m : ℕ) (t : Tree) → Within m t → lift a m t ≡ t
+  lift_closed a m (Rel i) h = lifted_below a m i (omega (arith, h))
+  lift_closed a m (Var x) h = refl
+  lift_closed a m (Sort s) h = refl
+  lift_closed a m (Prod x A B) h = ap₂ (Prod x) (lift_closed a m A h.0) (lift_closed a (m + 1) B h.1)
+  lift_closed a m (Lam x A t) h = ap₂ (Lam x) (lift_closed a m A h.0) (lift_closed a (m + 1) t h.1)
+  lift_closed a m (Let x v A t) h = let_is x (lift_closed a m v h.0) (lift_closed a m A h.1) (lift_closed a (m + 1) t h.2)
+  lift_closed a m (App f b) h = ap₂ App (lift_closed a m f h.0) (lift_closed a m b h.1)
+  lift_closed a m (Const c) h = refl
+  lift_closed a m (Ind c) h = refl
+  lift_closed a m (Ctor c k) h = refl
+  lift_closed a m (Elim c s) h = refl
+  lift_closed a m (Evar n ts) h = ap (Evar n) (each_lift_closed a m ts h)
+
+  pub each_lift_closed : (a m : ℕ) (ts : Trees) → EachWithin m ts → lift_each a m ts ≡ ts
+  each_lift_closed a m none h = refl
+  each_lift_closed a m (more t ts) h = ap₂ more (lift_closed a m t h.0) (each_lift_closed a m ts h.1)
+
+-- terms without loose bound variables
+abbrev pub AllClosed : List (Name × Tree) → Type 0
+AllClosed ps = (x : Name) (v : Tree) → value_of ps x ≡ Some v → Within 0 v
+
+-- what a list gives for a hypothesis, or the hypothesis itself
+abbrev pub given_or : List (Name × Tree) → Name → Option Tree
+given_or ps x = or_itself true x (value_of ps x)
+
+pub given_stands : (d : ℕ) (x : Name) (o : Option Tree) → ((v : Tree) → o ≡ Some v → Within 0 v) → or_itself true x o ≡ Some (standing o d x)
+unfolding or_itself
+given_stands d x None h = refl
+given_stands d x (Some v) h = ap Some (sym (lift_closed d 0 v (h v refl)))
+
+-- closed terms put in at any depth are the solution that keeps other hypotheses
+mutual
+  unfolding solution is_barred two three
+
+  pub put_solution : (ps : List (Name × Tree)) → AllClosed ps → (d : ℕ) (t : Tree) → solution None (given_or ps) t ≡ Some (put ps d t)
+  put_solution ps h d (Rel i) = refl
+  put_solution ps h d (Var x) = given_stands d x (value_of ps x) (h x)
+  put_solution ps h d (Sort s) = refl
+  put_solution ps h d (Prod x A B) = ap₂ (λ o p. two o p (Prod x)) (put_solution ps h d A) (put_solution ps h (d + 1) B)
+  put_solution ps h d (Lam x A t) = ap₂ (λ o p. two o p (Lam x)) (put_solution ps h d A) (put_solution ps h (d + 1) t)
+  put_solution ps h d (Let x v A t) =
+      ap (λ o. three o (solution None (given_or ps) A) (solution None (given_or ps) t) (Let x)) (put_solution ps h d v)
+      ∙ ap₂ (λ o p. three (Some (put ps d v)) o p (Let x)) (put_solution ps h d A) (put_solution ps h (d + 1) t)
+  put_solution ps h d (App f a) = ap₂ (λ o p. two o p App) (put_solution ps h d f) (put_solution ps h d a)
+  put_solution ps h d (Const c) = refl
+  put_solution ps h d (Ind c) = refl
+  put_solution ps h d (Ctor c k) = refl
+  put_solution ps h d (Elim c s) = refl
+  put_solution ps h d (Evar n ts) = ap (λ o. elim o [ None ↦ None | Some us ↦ Some (Evar n us) ]) (each_put_solution ps h d ts)
+
+  pub each_put_solution : (ps : List (Name × Tree)) → AllClosed ps → (d : ℕ) (ts : Trees) → solution_each None (given_or ps) ts ≡ Some (put_each ps d ts)
+  each_put_solution ps h d none = refl
+  each_put_solution ps h d (more t ts) = ap₂ (λ o p. two o p more) (put_solution ps h d t) (each_put_solution ps h d ts)

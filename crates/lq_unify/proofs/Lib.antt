@@ -1,0 +1,13 @@
+pub mod PartLaws
+pub mod SolutionLaws
+pub mod PlaceLaws
+pub mod ReplaceSteps
+pub mod SpineLaws
+pub mod GivenLaws
+pub mod HeadLaws
+pub mod FilledLaws
+pub mod UnreadLaws
+pub mod FormsUnread
+pub mod StepLaws
+pub mod ReduceSteps
+pub mod StandLaws

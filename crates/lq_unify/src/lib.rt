@@ -1,0 +1,7 @@
+//! Unification.
+#![tactic(auto)]
+
+mod givens;
+mod parts;
+mod replacing;
+mod spines;
