@@ -32,3 +32,4 @@ pub mod UnifyProved
 pub mod FreshLaws
 pub mod UnifyNear
 pub mod AlikeLaws
+pub mod Closing
