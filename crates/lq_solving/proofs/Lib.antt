@@ -33,3 +33,4 @@ pub mod FreshLaws
 pub mod UnifyNear
 pub mod AlikeLaws
 pub mod Closing
+pub mod StandsLaws
