@@ -6,20 +6,25 @@ use Rattle.std.proofs.lemmas.List.{length-map}
 use Rattle.lq_trees.specs.declared.Sort.{Sort as Universe}
 use Rattle.lq_trees.specs.Tree.{Name, Tree, Trees, Context, none, more, same_name}
 use Rattle.lq_trees.specs.Tree.Tree.{Rel, Var, Sort, Prod, Lam, Let, App, Const, Ind, Ctor, Elim, Evar}
-use Rattle.lq_trees.specs.Change.{replace, replace_each, lifted, closed, closing, close_at, close, subst, fill, fill_each}
+use Rattle.lq_trees.specs.Change.{replace, replace_each, lifted, lift, filled, closed, closing, close_at, close, subst, fill, fill_each}
 use Rattle.lq_trees.specs.Fresh.{is_listed, opened}
 use Rattle.lq_trees.specs.Index.{Within, EachWithin}
 use Rattle.lq_trees.specs.Hypotheses.{HoldsOnly, EachHoldsOnly}
 use Rattle.lq_trees.specs.Reading.{entries}
-use Rattle.lq_trees.proofs.FillLaws.{subst_fill, lifted_below, lifted_above}
+use Rattle.lq_trees.proofs.FillLaws.{subst_fill, lifted_below, lifted_above, filled_below}
 use Rattle.lq_solving.specs.Stores.{Variable, Assigned, Store, read}
 use Rattle.lq_solving.specs.Kept.{IsOver, EachIsOver, Stands, IsStore}
 use Rattle.lq_solving.specs.Claims.{IsPlain}
-use Rattle.lq_solving.proofs.InstanceLaws.{same_flip}
-use Rattle.lq_solving.proofs.Steady.{entries_replace}
-use Rattle.lq_solving.proofs.Good.{IsGood, EachIsGood, is_good, plain_good, subst_good}
+use Rattle.lq_solving.proofs.InstanceLaws.{is_same, same_flip}
+use Rattle.lq_solving.proofs.OverLaws.{lift_over, within_more}
+use Rattle.lq_solving.proofs.EqualUnder.{lift_closed}
+use Rattle.lq_solving.proofs.DoneLaws.{filled_done}
+use Rattle.lq_solving.proofs.ReadLaws.{filled_over, filled_within}
+use Rattle.lq_solving.proofs.UnifyForms.{holds_more}
+use Rattle.lq_solving.proofs.Steady.{entries_replace, at_place, beyond_place}
+use Rattle.lq_solving.proofs.Good.{IsGood, entries_filled, is_good, good_holds, plain_good, subst_good}
 use Rattle.lq_solving.proofs.Closing.{reads_close}
-use Rattle.lq_solving.proofs.Later.{reads_prod, reads_lam, reads_let, reads_app, reads_var, reads_sort, reads_const, reads_ind, reads_ctor, reads_eliminator, reads_fill, good_stands}
+use Rattle.lq_solving.proofs.Later.{reads_prod, reads_lam, reads_let, reads_app, reads_var, reads_sort, reads_const, reads_ind, reads_ctor, reads_eliminator, reads_fill, good_read, good_stands}
 
 -- a term that stands among hypotheses of these names, in which so many bound variables may be loose
 pub record StandsUnder (s : Store) (xs : List Name) (n : ℕ) (t : Tree) : Type 0 where
@@ -194,3 +199,109 @@ module _ (s : Store) (i : IsStore s) (xs : List Name) where
   -- a term that is plain stands anywhere
   pub plain_stands : (t : Tree) → IsPlain 0 t → Stands s xs t
   plain_stands t p = good_stands s i [] xs t (plain_good s.variables [] xs 0 t p.over p.within p.holds)
+
+-- ---- names
+
+pub listed_more : (xs ys : List Name) (x : Name) → is_listed xs x ≡ true → is_listed (xs ++ ys) x ≡ true
+unfolding is_listed
+listed_more [] ys x e = absurd (grind (arith, e))
+listed_more (z ∷ xs) ys x e = at (same_name z x) e (λ p. listed_more xs ys x p)
+  where
+    at : (b : Bool) → (b || is_listed xs x) ≡ true → (is_listed xs x ≡ true → is_listed (xs ++ ys) x ≡ true) → (b || is_listed (xs ++ ys) x) ≡ true
+    at true p ih = refl
+    at false p ih = ih p
+
+pub listed_end : (xs : List Name) (y : Name) → is_listed (xs ++ y ∷ []) y ≡ true
+unfolding is_listed
+listed_end [] y = ap (λ b. b || false) (is_same y)
+listed_end (z ∷ xs) y = at (same_name z y) (listed_end xs y)
+  where
+    at : (b : Bool) → is_listed (xs ++ y ∷ []) y ≡ true → (b || is_listed (xs ++ y ∷ []) y) ≡ true
+    at true p = refl
+    at false p = p
+
+pub var_stands : (s : Store) (xs : List Name) (x : Name) → is_listed xs x ≡ true → Stands s xs (Var x)
+unfolding read
+var_stands s xs x e = record { over = tt; within = tt; holds = along (HoldsOnly xs) (sym (reads_var s.variables s.values x)) e }
+
+-- ---- one value for the outermost bound variable
+
+module _ (vs : List Variable) (v : Tree) (o : IsOver vs v) where
+  rel_fill_over : (e i : ℕ) → IsOver vs (filled (v ∷ []) e i)
+  rel_fill_over e i = elim (cases_lt i e) [
+    | inl l ↦ along (IsOver vs) (sym (filled_below (v ∷ []) e i l)) tt
+    | inr l ↦ elim (cases_lt e i) [
+      | inl j ↦ along (IsOver vs) (sym (beyond_place v e i j)) tt
+      | inr j ↦ along (λ n. IsOver vs (filled (v ∷ []) e n)) (omega (arith, l, j)) (along (IsOver vs) (sym (at_place v e)) (lift_over vs e 0 v o))
+    ]
+  ]
+
+  mutual
+    pub fill_over : (e : ℕ) → (t : Tree) → IsOver vs t → IsOver vs (fill (v ∷ []) e t)
+    fill_over e (Rel i) p = rel_fill_over e i
+    fill_over e (Var x) p = tt
+    fill_over e (Sort u0) p = tt
+    fill_over e (Prod x0 A0 B0) p = (fill_over e A0 p.0, fill_over (e + 1) B0 p.1)
+    fill_over e (Lam x0 A0 B0) p = (fill_over e A0 p.0, fill_over (e + 1) B0 p.1)
+    fill_over e (Let x0 v0 A0 B0) p = (fill_over e v0 p.0, fill_over e A0 p.1, fill_over (e + 1) B0 p.2)
+    fill_over e (App f0 a0) p = (fill_over e f0 p.0, fill_over e a0 p.1)
+    fill_over e (Const c0) p = tt
+    fill_over e (Ind c0) p = tt
+    fill_over e (Ctor c0 k0) p = tt
+    fill_over e (Elim c0 u0) p = tt
+    fill_over e (Evar n0 ts0) p = (p.0, entries_filled (v ∷ []) e ts0 ∙ p.1, each_fill_over e ts0 p.2)
+
+    pub each_fill_over : (e : ℕ) → (ts : Trees) → EachIsOver vs ts → EachIsOver vs (fill_each (v ∷ []) e ts)
+    each_fill_over e none p = tt
+    each_fill_over e (more t0 ts0) p = (fill_over e t0 p.0, each_fill_over e ts0 p.1)
+
+module _ (v : Tree) (w : Within 0 v) where
+  rel_fill_within : (e i : ℕ) → suc i ≤ e + 1 → Within e (filled (v ∷ []) e i)
+  rel_fill_within e i h = elim (cases_lt i e) [
+    | inl l ↦ along (Within e) (sym (filled_below (v ∷ []) e i l)) l
+    | inr l ↦ along (λ n. Within e (filled (v ∷ []) e n)) (omega (arith, l, h)) (along (Within e) (sym (at_place v e ∙ lift_closed e 0 0 (omega arith) v w)) (within_more 0 e (omega arith) v w))
+  ]
+
+  mutual
+    pub fill_within : (e : ℕ) → (t : Tree) → Within (e + 1) t → Within e (fill (v ∷ []) e t)
+    fill_within e (Rel i) p = rel_fill_within e i p
+    fill_within e (Var x) p = tt
+    fill_within e (Sort u0) p = tt
+    fill_within e (Prod x0 A0 B0) p = (fill_within e A0 p.0, fill_within (e + 1) B0 p.1)
+    fill_within e (Lam x0 A0 B0) p = (fill_within e A0 p.0, fill_within (e + 1) B0 p.1)
+    fill_within e (Let x0 v0 A0 B0) p = (fill_within e v0 p.0, fill_within e A0 p.1, fill_within (e + 1) B0 p.2)
+    fill_within e (App f0 a0) p = (fill_within e f0 p.0, fill_within e a0 p.1)
+    fill_within e (Const c0) p = tt
+    fill_within e (Ind c0) p = tt
+    fill_within e (Ctor c0 k0) p = tt
+    fill_within e (Elim c0 u0) p = tt
+    fill_within e (Evar n0 ts0) p = each_fill_within e ts0 p
+
+    pub each_fill_within : (e : ℕ) → (ts : Trees) → EachWithin (e + 1) ts → EachWithin e (fill_each (v ∷ []) e ts)
+    each_fill_within e none p = tt
+    each_fill_within e (more t0 ts0) p = (fill_within e t0 p.0, each_fill_within e ts0 p.1)
+
+module _ (s : Store) (i : IsStore s) (xs : List Name) where
+  -- the rest of a binder as read
+  under_good : (t : Tree) → StandsUnder s xs 1 t → IsGood s.variables s.values xs 1 (read s t)
+  unfolding read
+  under_good t h =
+      is_good s.variables s.values xs 1 (read s t) (filled_over s.variables s.values i.values t h.over) (filled_done s.variables s.values i.values t)
+      (filled_within s.variables s.values i.values 1 t h.within) h.holds
+
+  pub subst_stands : (v t : Tree) → Stands s xs v → StandsUnder s xs 1 t → Stands s xs (subst v t)
+  unfolding read
+  subst_stands v t h k = record {
+    over = along (IsOver s.variables) (sym (subst_fill v t)) (fill_over s.variables v h.over 0 t k.over);
+    within = along (Within 0) (sym (subst_fill v t)) (fill_within v h.within 0 t k.within);
+    holds =
+        along (HoldsOnly xs) (sym (ap (read s) (subst_fill v t) ∙ reads_fill s.variables s.values i.values v 0 t ∙ sym (subst_fill (read s v) (read s t))))
+        (good_holds s.variables s.values xs 0 (subst (read s v) (read s t)) (subst_good s.variables s.values xs (read s v) (read s t) (good_read s i xs v h) (under_good t k)));
+  }
+
+-- the rest of a binder, opened
+pub open_stands : (s : Store) → IsStore s → (xs : List Name) (y : Name) (t : Tree) → StandsUnder s xs 1 t → Stands s (xs ++ y ∷ []) (opened y t)
+unfolding opened
+open_stands s i xs y t k =
+    subst_stands s i (xs ++ y ∷ []) (Var y) t (var_stands s (xs ++ y ∷ []) y (listed_end xs y))
+    (record { over = k.over; within = k.within; holds = holds_more xs (xs ++ y ∷ []) (λ x e. listed_more xs (y ∷ []) x e) (read s t) k.holds })
