@@ -34,3 +34,4 @@ pub mod UnifyNear
 pub mod AlikeLaws
 pub mod Closing
 pub mod StandsLaws
+pub mod InferKept

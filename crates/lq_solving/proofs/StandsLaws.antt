@@ -34,7 +34,7 @@ pub record StandsUnder (s : Store) (xs : List Name) (n : ℕ) (t : Tree) : Type 
 
 -- ---- a hypothesis becomes bound
 
-listed_last : (xs : List Name) (y x : Name) → is_listed (xs ++ y ∷ []) x ≡ true → same_name x y ≡ false → is_listed xs x ≡ true
+pub listed_last : (xs : List Name) (y x : Name) → is_listed (xs ++ y ∷ []) x ≡ true → same_name x y ≡ false → is_listed xs x ≡ true
 unfolding is_listed
 listed_last [] y x e f = absurd (other (same_name y x) (same_flip y x ∙ f) e)
   where
