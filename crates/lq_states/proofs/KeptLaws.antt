@@ -99,7 +99,7 @@ within_is p q e = by (leb (length p.focus) 10000) e
 -- ---- goals in the place of others
 
 -- the goals left stand there once at most
-times_refocused : (taken left focus : List ℕ) → ((k : ℕ) → times focus k ≤ 1) → (m : ℕ) →
+pub times_refocused : (taken left focus : List ℕ) → ((k : ℕ) → times focus k ≤ 1) → (m : ℕ) →
     times (refocused taken left focus) m ≤ times left m + times (without taken focus) m
 unfolding refocused has
 times_refocused [] left focus h m = omega (arith, times_without [] focus m)
@@ -124,13 +124,13 @@ times_refocused (k ∷ ks) left focus h m = by (has focus k)
 
 module _ (p : Proof) (taken left shelved : List ℕ) (h : IsListed p) (r : MayReplace p taken left shelved) where
   -- the lists before goals with a value leave
-  abbrev exchanged : Proof
+  abbrev pub exchanged : Proof
   exchanged = with_lists p (refocused taken left p.focus) p.frames (without taken p.shelf ++ shelved)
 
   focus_once : (k : ℕ) → times p.focus k ≤ 1
   focus_once k = omega (arith, times_listed p k, h.once k)
 
-  few : (m : ℕ) → times (listed_goals exchanged) m ≤ times left m + times shelved m + times (without taken p.focus) m + times (behind_all p.frames) m + times (without taken p.shelf) m
+  pub few : (m : ℕ) → times (listed_goals exchanged) m ≤ times left m + times shelved m + times (without taken p.focus) m + times (behind_all p.frames) m + times (without taken p.shelf) m
   few m = omega (arith, times_listed exchanged m, times_refocused taken left p.focus focus_once m, times_append (without taken p.shelf) shelved m)
 
   once : (m : ℕ) → times (listed_goals exchanged) m ≤ 1

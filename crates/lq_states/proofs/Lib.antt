@@ -4,3 +4,4 @@ pub mod ListLaws
 pub mod KeptLaws
 pub mod FrameLaws
 pub mod MarkLaws
+pub mod SweepLaws

@@ -1,6 +1,6 @@
 -- What is true of a proof's lists.
-use Rattle.std.specs.Prelude.{◌≡◌, ◌≤◌, ◌<◌, ◌+◌, ℕ, true, false, eqb, List, [], ◌∷◌, ◌++◌}
-use Rattle.lq_solving.specs.Stores.{is_open, count}
+use Rattle.std.specs.Prelude.{◌≡◌, ◌≤◌, ◌<◌, ◌+◌, ◌-◌, ℕ, true, false, eqb, List, [], ◌∷◌, ◌++◌, length, drop, None}
+use Rattle.lq_solving.specs.Stores.{Assigned, is_open, count, find_value}
 use Rattle.lq_states.specs.Goals.{Frame, Proof}
 
 -- how often a number stands in a list
@@ -36,3 +36,13 @@ pub record IsProof (p : Proof) : Type 0 where
   pub rooted : 1 ≤ count p.store
   pub once : (k : ℕ) → times (listed_goals p) k ≤ 1
   pub valueless : (k : ℕ) → 1 ≤ times (listed_goals p) k → is_open p.store k ≡ true
+
+-- the oldest of some values, of which the newest stands first
+abbrev pub oldest : ℕ → List Assigned → List Assigned
+oldest n as_ = drop (length as_ - n) as_
+
+-- when so many values were given to so many variables, each of the lists' goals was one of these variables and had no value
+pub record IsSwept (p : Proof) (given seen : ℕ) : Type 0 where
+  pub values : given ≤ length p.store.values
+  pub inside : (k : ℕ) → 1 ≤ times (listed_goals p) k → k < seen
+  pub valueless : (k : ℕ) → 1 ≤ times (listed_goals p) k → find_value (oldest given p.store.values) k ≡ None
