@@ -342,6 +342,16 @@ impl Store {
         self.values.len()
     }
 
+    /// The number of the variable that was given the value of that place, in the order of giving. It takes no memory.
+    pub fn given_to(&self, place: usize) -> Option<u32>
+        ensures { result ≡ option_map (λ a. a.0) (slice_get self.now.values place) }
+    {
+        match self.values.get_index(place) {
+            Some((id, _)) => Some(*id),
+            None => None,
+        }
+    }
+
     /// The store as it was when so many values were given, where only values were given since: the one change that takes values
     /// back. It takes no memory, and the time of what it takes back.
     pub fn take_back(&mut self, given: usize)
