@@ -1,12 +1,10 @@
 -- Values in a term of which a hypothesis becomes a bound variable: reading goes through it.
-use Rattle.std.proofs.Common.{◌≡◌, ◌≤◌, ◌+◌, ◌∙◌, ℕ, suc, refl, sym, ap, ap₂, arith, eqb, eqb-true, Bool, true, false, if◌then◌else◌, List, [], ◌∷◌, map, length, Option, Some, None, inl, inr}
-use Rattle.std.proofs.Common.{subst as along}
+use Rattle.std.proofs.Common.{◌≡◌, ◌+◌, ◌∙◌, ℕ, refl, sym, ap, ap₂, arith, eqb, eqb-true, Bool, true, false, if◌then◌else◌, List, [], ◌∷◌, map, length, Option, Some, inl, inr}
 use Rattle.std.proofs.lemmas.Bool.{cases_lt}
 use Rattle.std.specs.Prelude.{zip}
 use Rattle.lq_trees.specs.Tree.{Name, Tree, Trees, none, more, same_name, value_of}
 use Rattle.lq_trees.specs.Tree.Tree.{Rel, Var, Sort, Prod, Lam, Let, App, Const, Ind, Ctor, Elim, Evar}
 use Rattle.lq_trees.specs.Change.{replace, replace_each, lifted, closed, closing, close_at, standing, put}
-use Rattle.lq_trees.specs.Fresh.{is_listed}
 use Rattle.lq_trees.specs.Index.{Within, EachWithin}
 use Rattle.lq_trees.specs.Hypotheses.{HoldsOnly, EachHoldsOnly}
 use Rattle.lq_trees.specs.Reading.{entries}
@@ -19,7 +17,6 @@ use Rattle.lq_solving.proofs.OverLaws.{length_value}
 use Rattle.lq_solving.proofs.InstanceLaws.{found_value}
 use Rattle.lq_solving.proofs.ReadLaws.{filled as filled_values, filled_over, newest_closed}
 use Rattle.lq_solving.proofs.Steady.{steady_lift, closing_steady, name_among, entries_replace}
-
 
 -- a name of a body that has an entry
 closed_entry : (y : Name) (D d j : ℕ) → D ≡ d + j → (x : Name) (v : Tree) (o : Option Tree) → o ≡ Some v →

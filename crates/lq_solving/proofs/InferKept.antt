@@ -1,42 +1,38 @@
 -- The type that inference finds for a term that is good is good.
-use Rattle.std.proofs.Common.{◌≡◌, ◌≤◌, ◌<◌, ◌+◌, ◌^◌, ◌∙◌, ℕ, zero, suc, refl, sym, ap, ap₂, arith, Bool, true, false, ◌||◌, if◌then◌else◌, List, [], ◌∷◌, ◌++◌, map, length, length-append, Option, Some, None, ◌⊎◌, inl, inr}
+use Rattle.std.proofs.Common.{◌≡◌, ◌≤◌, ◌+◌, ◌∙◌, ℕ, zero, suc, refl, sym, ap, arith, Bool, true, false, if◌then◌else◌, List, [], ◌∷◌, ◌++◌, length, Option, Some, None, ◌⊎◌, inl, inr}
 use Rattle.std.proofs.Common.{subst as along}
 use Rattle.std.proofs.lemmas.Bool.{cases_lt}
 use Rattle.std.proofs.lemmas.List.{length-map, map-append}
 use Rattle.std.specs.Prelude.{zip, ltb, slice_get}
-use Rattle.std.specs.List.{AllByRecursion}
 use Rattle.lq_trees.specs.declared.Sort.{Sort as Universe}
 use Rattle.lq_trees.specs.declared.Fit.{Fit}
 use Rattle.lq_trees.specs.Tree.{Name, Tree, Trees, Context, Hypothesis, none, more, same_name, value_of}
 use Rattle.lq_trees.specs.Tree.Tree.{Rel, Var, Sort, Prod, Lam, Let, App, Const, Ind, Ctor, Elim, Evar}
-use Rattle.lq_trees.specs.Change.{replace, replace_each, lifted, lift, closed, closing, close_at, close, subst, standing, put}
+use Rattle.lq_trees.specs.Change.{replace, replace_each, lifted, closed, closing, close_at, close, subst, standing, put}
 use Rattle.lq_trees.specs.Fresh.{is_listed, fresh, opened, under, under_let}
-use Rattle.lq_trees.specs.Index.{Within}
 use Rattle.lq_trees.specs.Size.{fit}
 use Rattle.lq_trees.specs.Reading.{entries}
-use Rattle.lq_trees.specs.Ticks.{gives, fails, tick, ◌>>=◌}
+use Rattle.lq_trees.specs.Ticks.{gives, fails, ◌>>=◌}
 use Rattle.lq_trees.proofs.FillLaws.{lifted_below, lifted_above}
-use Rattle.lq_calculus.specs.Contraction.{hypothesis, contract, whnf}
+use Rattle.lq_calculus.specs.Contraction.{hypothesis, whnf}
 use Rattle.lq_calculus.specs.Declarations.{Env, Entry, Family, EnvFault, lookup, constant, family, arity, constructor, eliminator, family_type, constructor_kind, permits, elim_type, rules_of}
-use Rattle.lq_calculus.specs.Typing.{product_sort}
-use Rattle.lq_calculus.specs.Checking.{KernelFault, Kernel, fitting, as_sort, as_product, needed_form, matching, sort_above, constant_kind, family_kind, ctor_kind, elim_kind}
+use Rattle.lq_calculus.specs.Checking.{KernelFault, fitting, as_sort, as_product, needed_form, matching, sort_above, constant_kind, family_kind, ctor_kind, elim_kind}
 use Rattle.lq_calculus.proofs.ConvSound.{Gives, gives_bind}
-use Rattle.lq_solving.specs.Stores.{Variable, Assigned, Store, names_in, names_at, body_at, find_value, read}
-use Rattle.lq_solving.specs.Kept.{Stands, IsVariable, IsStore}
+use Rattle.lq_solving.specs.Stores.{Variable, Assigned, Store, names_in, names_at, body_at, read}
+use Rattle.lq_solving.specs.Kept.{IsVariable, IsStore}
 use Rattle.lq_solving.proofs.KindLaws.{all_get}
 use Rattle.lq_solving.specs.Inference.{infer_by, matching_by, by_store_types, variable_kind}
 use Rattle.lq_solving.specs.Claims.{IsPlain, ArePlainDeclarations}
-use Rattle.lq_solving.proofs.InstanceLaws.{same_flip, found_value}
+use Rattle.lq_solving.proofs.InstanceLaws.{found_value}
 use Rattle.lq_solving.proofs.Steady.{entries_replace}
 use Rattle.lq_solving.proofs.LiftLaws.{put_each}
 use Rattle.lq_solving.proofs.OverLaws.{length_put}
 use Rattle.lq_solving.proofs.EqualUnder.{lift_closed}
 use Rattle.lq_solving.proofs.Moving.{AllHave}
-use Rattle.lq_solving.proofs.Good.{IsGood, EachIsGood, good_more, good_within, plain_good, subst_good, form_good, BodiesGood}
+use Rattle.lq_solving.proofs.Good.{IsGood, EachIsGood, good_more, good_within, plain_good, subst_good, form_good}
 use Rattle.lq_solving.proofs.UnifyForms.{good_names}
 use Rattle.lq_solving.proofs.StandsLaws.{listed_last, listed_more, listed_end}
 use Rattle.lq_solving.proofs.Later.{body_of, contract_var, good_read}
-use Rattle.lq_solving.proofs.FreshLaws.{fresh_new}
 
 -- ---- a hypothesis becomes bound in a good term
 
@@ -204,7 +200,7 @@ module _ (env : Env) (plain : ArePlainDeclarations env) (s : Store) (i : IsStore
       (form_good s.variables s.values (names_in g) KernelFault (rules_of env) plain.rules g (λ x v e. c.bodies x v (sym (contract_var (rules_of env) g x) ∙ e)) n K a.0 k a.1)
 
   -- the declared types
-  constant_good : (xs : List Name) (x : Name) (A : Tree) → Gives (constant_kind x (lookup env x)) A → Good xs 0 A
+  pub constant_good : (xs : List Name) (x : Name) (A : Tree) → Gives (constant_kind x (lookup env x)) A → Good xs 0 A
   unfolding constant_kind
   constant_good xs x A y = at (lookup env x) refl y
     where
@@ -216,7 +212,7 @@ module _ (env : Env) (plain : ArePlainDeclarations env) (s : Store) (i : IsStore
       at (Some (constructor c k)) e z = absurd z
       at (Some (eliminator c u)) e z = absurd z
 
-  family_good : (xs : List Name) (x : Name) (A : Tree) → Gives (family_kind x (lookup env x)) A → Good xs 0 A
+  pub family_good : (xs : List Name) (x : Name) (A : Tree) → Gives (family_kind x (lookup env x)) A → Good xs 0 A
   unfolding family_kind
   family_good xs x A y = at (lookup env x) refl y
     where
@@ -228,7 +224,7 @@ module _ (env : Env) (plain : ArePlainDeclarations env) (s : Store) (i : IsStore
       at (Some (constructor c k)) e z = absurd z
       at (Some (eliminator c u)) e z = absurd z
 
-  constructor_good : (xs : List Name) (x : Name) (k : ℕ) (A : Tree) → Gives (ctor_kind x k (lookup env x)) A → Good xs 0 A
+  pub constructor_good : (xs : List Name) (x : Name) (k : ℕ) (A : Tree) → Gives (ctor_kind x k (lookup env x)) A → Good xs 0 A
   unfolding ctor_kind
   constructor_good xs x k A y = at (lookup env x) refl y
     where
@@ -245,7 +241,7 @@ module _ (env : Env) (plain : ArePlainDeclarations env) (s : Store) (i : IsStore
       at (Some (constructor c j)) e z = absurd z
       at (Some (eliminator c u)) e z = absurd z
 
-  eliminator_good : (xs : List Name) (x : Name) (u : Universe) (A : Tree) → Gives (elim_kind x u (lookup env x)) A → Good xs 0 A
+  pub eliminator_good : (xs : List Name) (x : Name) (u : Universe) (A : Tree) → Gives (elim_kind x u (lookup env x)) A → Good xs 0 A
   unfolding elim_kind
   eliminator_good xs x u A y = at (lookup env x) refl y
     where
@@ -262,7 +258,7 @@ module _ (env : Env) (plain : ArePlainDeclarations env) (s : Store) (i : IsStore
       at (Some (constructor c j)) e z = absurd z
       at (Some (eliminator c v)) e z = absurd z
 
-  above_good : (xs : List Name) (u : Universe) (A : Tree) → Gives (sort_above u) A → Good xs 0 A
+  pub above_good : (xs : List Name) (u : Universe) (A : Tree) → Gives (sort_above u) A → Good xs 0 A
   unfolding sort_above
   above_good xs Universe.Base A y = along (Good xs 0) y tt
   above_good xs (Universe.Level k) A y = at (ltb k 3) y

@@ -35,3 +35,5 @@ pub mod AlikeLaws
 pub mod Closing
 pub mod StandsLaws
 pub mod InferKept
+pub mod ElabKept
+pub mod ElabStands

@@ -1,18 +1,17 @@
 -- How terms that stand among hypotheses are put together and taken apart.
-use Rattle.std.proofs.Common.{◌≡◌, ◌≤◌, ◌<◌, ◌+◌, ◌∙◌, ℕ, suc, refl, sym, ap, ap₂, arith, Bool, true, false, ◌||◌, if◌then◌else◌, List, [], ◌∷◌, ◌++◌, map, length, inl, inr}
+use Rattle.std.proofs.Common.{◌≡◌, ◌≤◌, ◌+◌, ◌∙◌, ℕ, suc, refl, sym, ap, arith, Bool, true, false, ◌||◌, if◌then◌else◌, List, [], ◌∷◌, ◌++◌, length, inl, inr}
 use Rattle.std.proofs.Common.{subst as along}
 use Rattle.std.proofs.lemmas.Bool.{cases_lt}
 use Rattle.std.proofs.lemmas.List.{length-map}
-use Rattle.lq_trees.specs.declared.Sort.{Sort as Universe}
-use Rattle.lq_trees.specs.Tree.{Name, Tree, Trees, Context, none, more, same_name}
+use Rattle.lq_trees.specs.Tree.{Name, Tree, Trees, none, more, same_name}
 use Rattle.lq_trees.specs.Tree.Tree.{Rel, Var, Sort, Prod, Lam, Let, App, Const, Ind, Ctor, Elim, Evar}
-use Rattle.lq_trees.specs.Change.{replace, replace_each, lifted, lift, filled, closed, closing, close_at, close, subst, fill, fill_each}
+use Rattle.lq_trees.specs.Change.{replace, replace_each, lifted, filled, closed, closing, close_at, close, subst, fill, fill_each}
 use Rattle.lq_trees.specs.Fresh.{is_listed, opened}
 use Rattle.lq_trees.specs.Index.{Within, EachWithin}
 use Rattle.lq_trees.specs.Hypotheses.{HoldsOnly, EachHoldsOnly}
 use Rattle.lq_trees.specs.Reading.{entries}
 use Rattle.lq_trees.proofs.FillLaws.{subst_fill, lifted_below, lifted_above, filled_below}
-use Rattle.lq_solving.specs.Stores.{Variable, Assigned, Store, read}
+use Rattle.lq_solving.specs.Stores.{Variable, Store, read}
 use Rattle.lq_solving.specs.Kept.{IsOver, EachIsOver, Stands, IsStore}
 use Rattle.lq_solving.specs.Claims.{IsPlain}
 use Rattle.lq_solving.proofs.InstanceLaws.{is_same, same_flip}
@@ -24,7 +23,7 @@ use Rattle.lq_solving.proofs.UnifyForms.{holds_more}
 use Rattle.lq_solving.proofs.Steady.{entries_replace, at_place, beyond_place}
 use Rattle.lq_solving.proofs.Good.{IsGood, entries_filled, is_good, good_holds, plain_good, subst_good}
 use Rattle.lq_solving.proofs.Closing.{reads_close}
-use Rattle.lq_solving.proofs.Later.{reads_prod, reads_lam, reads_let, reads_app, reads_var, reads_sort, reads_const, reads_ind, reads_ctor, reads_eliminator, reads_fill, good_read, good_stands}
+use Rattle.lq_solving.proofs.Later.{reads_prod, reads_lam, reads_let, reads_app, reads_var, reads_fill, good_read, good_stands}
 
 -- a term that stands among hypotheses of these names, in which so many bound variables may be loose
 pub record StandsUnder (s : Store) (xs : List Name) (n : ℕ) (t : Tree) : Type 0 where
