@@ -23,3 +23,4 @@ pub mod Formed
 pub mod Comparings
 pub mod Walks
 pub mod Parts
+pub mod Marks

@@ -5,19 +5,25 @@ use Rattle.std.specs.Prelude.{slice_get, zip, IfSome, option_map}
 use Rattle.std.specs.Str.{bytes_eq}
 use Rattle.std.specs.List.{AllByRecursion}
 use Rattle.std.proofs.lemmas.List.{drop_more, length-map}
-use Rattle.lq_trees.specs.Tree.{Name, Tree, Trees, value_of}
-use Rattle.lq_trees.specs.Tree.Tree.{Var, Evar}
-use Rattle.lq_trees.specs.Change.{replace}
-use Rattle.lq_trees.specs.Marks.{loose, holds_hypothesis, holds_unknown}
+use Rattle.lq_trees.specs.Tree.{Name, Tree, Trees, none, more, value_of}
+use Rattle.lq_trees.specs.Tree.Tree.{Rel, Var, Sort, Prod, Lam, Let, App, Const, Ind, Ctor, Elim, Evar}
+use Rattle.lq_trees.specs.Change.{replace, instantiating}
+use Rattle.lq_trees.specs.Fresh.{is_listed}
+use Rattle.lq_trees.specs.Hypotheses.{HoldsOnly, EachHoldsOnly}
+use Rattle.lq_trees.proofs.MarkLaws.{loose-within, stays_nameless}
+use Rattle.lq_trees.specs.Marks.{loose, holds_hypothesis, hold_hypothesis, holds_unknown}
 use Rattle.lq_trees.specs.Reading.{entries}
 use Rattle.lq_terms.specs.declared.nodes.Hypothesis.{Hypothesis}
 use Rattle.lq_terms.specs.declared.nodes.TermId.{TermId}
 use Rattle.lq_terms.specs.declared.nodes.Node.{Node}
 use Rattle.lq_terms.specs.Terms.{Terms, IsPart, text_of, tree_of, trees_by, node_tree}
 use Rattle.lq_terms.specs.Changes.{HasHypothesis}
-use Rattle.lq_solving.specs.Stores.{Variable as TreeVariable, Store as TreeStore, names_at, names_in, find_value, value}
+use Rattle.lq_solving.specs.Stores.{Variable as TreeVariable, Store as TreeStore, names_at, names_in, find_value, value, body_at}
 use Rattle.lq_solving.specs.Kept.{IsOver, EachIsOver, IsStore}
-use Rattle.lq_solving.proofs.ReadLaws.{given_over}
+use Rattle.lq_solving.proofs.FreeLaws.{both_false}
+use Rattle.lq_solving.proofs.ReadLaws.{filled_each, filled_within, given_over, reads_as_value}
+use Rattle.lq_solving.proofs.StoreLaws.{values_hold}
+use Rattle.lq_evars.proofs.CostLaws.{given_steps}
 use Rattle.lq_evars.specs.declared.store.Variable.{Variable}
 use Rattle.lq_evars.specs.declared.scopes.Around.{Around}
 use Rattle.lq_evars.specs.declared.scopes.Link.{Link}
@@ -324,6 +330,98 @@ module _ (bank : Terms) (s : Places) (h : HasStore bank s) (kept : IsStore (stor
             );
         deep = omega arith;
       }
+
+-- a tree that holds hypotheses of no names holds none
+mutual
+  unfolding is_listed
+
+  nameless : (t : Tree) → HoldsOnly [] t → holds_hypothesis t ≡ false
+  nameless (Rel i) h = refl
+  nameless (Var x) h = absurd (grind arith)
+  nameless (Sort q) h = refl
+  nameless (Prod x A B) h = both_false _ _ (nameless A h.0) (nameless B h.1)
+  nameless (Lam x A B) h = both_false _ _ (nameless A h.0) (nameless B h.1)
+  nameless (Let x v A B) h = both_false _ _ (both_false _ _ (nameless v h.0) (nameless A h.1)) (nameless B h.2)
+  nameless (App f a) h = both_false _ _ (nameless f h.0) (nameless a h.1)
+  nameless (Const c) h = refl
+  nameless (Ind c) h = refl
+  nameless (Ctor c k) h = refl
+  nameless (Elim c q) h = refl
+  nameless (Evar n ts) h = each_nameless ts h
+
+  each_nameless : (ts : Trees) → EachHoldsOnly [] ts → hold_hypothesis ts ≡ false
+  each_nameless none h = refl
+  each_nameless (more t ts) h = both_false _ _ (nameless t h.0) (each_nameless ts h.1)
+
+no_steps : (w : ℕ → ℕ → ℕ) (v : ℕ) (ts : Trees) → length (entries ts) ≡ 0 → steps_each w v ts ≡ 0
+unfolding entries
+no_steps w v none e = refl
+no_steps w v (more t ts) e = absurd (omega (arith, e))
+
+-- a variable with a value among no hypotheses
+module _ (bank : Terms) (s : Places) (h : HasStore bank s) (kept : IsStore (store_of bank s)) (n : ℕ) (ls : List Link) (c : Closure) (ts : Trees) (is : tree_of bank c.term ≡ Evar n ts)
+    (made : AreLinks bank (store_of bank s).variables ls) (has : HasClosure bank (store_of bank s).variables (length ls) c) (t : TermId) (e : value_at s n ≡ Some t) where
+  bare_over : IsOver (store_of bank s).variables (Evar n ts)
+  bare_over = along (IsOver (store_of bank s).variables) is has.term.over
+
+  pub bare_inside : n < length s.variables
+  bare_inside = along (λ k. n < k) (length-map s.variables (variable_of bank)) bare_over.0
+
+  module _ (bare : (v : Variable) → slice_get s.variables n ≡ Some v → v.context ≡ []) where
+    no_names : names_at (store_of bank s).variables n ≡ []
+    unfolding names_at
+    no_names =
+        let v = there s.variables n bare_inside in
+        ap (λ (o : Option TreeVariable). elim o [ Some v ↦ names_in v.context | None ↦ [] ]) (variable_told bank s n v.0 v.1) ∙ sym (names_told bank v.0.context)
+        ∙ ap (map (λ k. text_of bank k.name)) (bare v.0 v.1)
+
+    value_here : find_value (store_of bank s).values n ≡ Some (tree_of bank t)
+    value_here = value_some bank s h kept n t e
+
+    reads_nameless : holds_hypothesis (as_read (store_of bank s) (tree_of bank t)) ≡ false
+    reads_nameless =
+        nameless (as_read (store_of bank s) (tree_of bank t))
+        (along (λ xs. HoldsOnly xs (as_read (store_of bank s) (tree_of bank t))) no_names (values_hold (store_of bank s).variables (store_of bank s).values kept.values n (tree_of bank t) value_here))
+
+    reads_closed : loose (as_read (store_of bank s) (tree_of bank t)) ≤ 0
+    reads_closed =
+        loose-within 0 (as_read (store_of bank s) (tree_of bank t))
+        (filled_within (store_of bank s).variables (store_of bank s).values kept.values 0 (tree_of bank t)
+        (given_over (store_of bank s).variables (store_of bank s).values kept.values n (tree_of bank t) value_here).1)
+
+    stands_itself : placed (store_of bank s) (scope_of bank ls c.around) c.base c.under (as_read (store_of bank s) (Evar n ts)) ≡ as_read (store_of bank s) (tree_of bank t)
+    unfolding body_at
+    stands_itself =
+        ap (placed (store_of bank s) (scope_of bank ls c.around) c.base c.under)
+        (reads_as_value (store_of bank s).variables (store_of bank s).values kept.values n (tree_of bank t) ts value_here bare_over.2
+        ∙ stays_nameless (instantiating (zip (names_at (store_of bank s).variables n) (entries (filled_each (store_of bank s).variables (store_of bank s).values ts)))) (λ d i. refl) 0
+        (as_read (store_of bank s) (tree_of bank t)) reads_nameless)
+        ∙ stays_in (store_of bank s) (scope_of bank ls c.around) c.base c.under (as_read (store_of bank s) (tree_of bank t)) (omega (arith, reads_closed)) reads_nameless
+
+    pub bare_turns : TurnsTo bank (store_of bank s) ls ls c (Some (record { term = t; around = Around.Nothing; base = 0; under = c.base + c.under }))
+    bare_turns = record {
+      more = [];
+      longer = sym (append-nil ls);
+      made = made;
+      has = record {
+        term = record {
+          has = value_has bank s.values n t h.values e;
+          over = (given_over (store_of bank s).variables (store_of bank s).values kept.values n (tree_of bank t) value_here).0;
+        };
+        around = tt;
+      };
+      same =
+          alone (store_of bank s) (c.base + c.under) (as_read (store_of bank s) (tree_of bank t))
+          ∙ sym (ap (λ z. placed (store_of bank s) (scope_of bank ls c.around) c.base c.under (as_read (store_of bank s) z)) is ∙ stands_itself);
+      falls =
+          omega (
+            arith,
+            ap (term_steps (store_of bank s).values (scope_of bank ls c.around)) is,
+            given_steps (store_of bank s).variables (store_of bank s).values kept.values (λ m v. v) n 0 (tree_of bank t) value_here,
+            ap (value_steps (store_of bank s).values n) (no_steps (value_steps (store_of bank s).values) (scope_steps (store_of bank s).values (scope_of bank ls c.around)) ts (bare_over.1 ∙ ap length no_names)),
+          );
+      deep = omega arith;
+    }
 
 -- another node stands for itself
 abbrev pub IsOther : Node → Type 0

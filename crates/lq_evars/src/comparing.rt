@@ -9,10 +9,13 @@ ghost use Rattle.lq_solving.specs.Kept.{IsStore};
 ghost use Rattle.lq_evars.specs.Places.{store_of, HasStore};
 ghost use Rattle.lq_evars.specs.Closures.{AreLinks, IsTermOver, HasClosure, depth_of, closure_tree, SettledClosure, beside, under, closure_parts, paired, HasPair};
 ghost use Rattle.lq_evars.specs.Closures.{IsShallow, same_pair, ComparesTo, first_pair};
+ghost use Rattle.lq_evars.specs.Noting.{AreSame, AreMarks};
 
 use crate::labels::{label_of, same_label};
+use crate::noting::{Mark, is_noted, note_marks, put_mark};
 use crate::scopes::{Around, Closure, Link, turned};
 use crate::store::Store;
+use indexmap::IndexMap;
 use lq_terms::{Bank, NoMemory, Node, TermId, holds_hypothesis, holds_unknown, loose, same};
 use std::alloc::Global;
 
@@ -220,7 +223,7 @@ fn turn(
 }
 
 /// Whether nothing is around a closure.
-fn is_alone(closure: Closure) -> bool
+pub(crate) fn is_alone(closure: Closure) -> bool
     ensures around { result ≡ true → closure.around ≡ Around.Nothing }
     ensures base { result ≡ true → closure.base ≡ 0 }
 {
@@ -275,12 +278,14 @@ fn is_one(left: Closure, right: Closure) -> bool
         && same_around(left.around, right.around)
 }
 
-/// Compares a pair, or puts on what is to be compared in its place.
+/// Compares a pair that was just taken off the others, or puts on what is to be compared in its place, with a mark.
 fn step(
     bank: &Bank<'_>,
     store: &Store,
     links: &mut Vec<Link>,
     work: &mut Vec<Pair>,
+    known: &IndexMap<TermId, TermId>,
+    marks: &mut Vec<Mark>,
     pair: Pair,
 ) -> Result<bool, NoMemory>
     requires store { HasStore bank.now store.now }
@@ -288,7 +293,11 @@ fn step(
     requires links { AreLinks bank.now (store_of bank.now store.now).variables links.old.items }
     requires pair { HasPair bank.now (store_of bank.now store.now).variables (length links.old.items) pair }
     requires shallow { IsShallow (length work.old.items) pair }
-    ensures { IfOk result (ComparesTo bank.now (store_of bank.now store.now) links.old.items links.new.items pair work.old.items work.new.items) }
+    requires known { AreSame bank.now (store_of bank.now store.now) known.now.entries }
+    requires marks { AreMarks bank.now (store_of bank.now store.now) links.old.items (work.old.items ++ pair ∷ []) marks.old.items }
+    ensures compared { IfOk result
+        (ComparesTo bank.now (store_of bank.now store.now) links.old.items links.new.items pair work.old.items work.new.items) }
+    ensures marks { OnOk result (AreMarks bank.now (store_of bank.now store.now) links.old.items (work.old.items ++ pair ∷ []) marks.new.items) }
 {
     if is_one(pair.left, pair.right) {
         return Ok(true);
@@ -298,6 +307,10 @@ fn step(
     {
         return Ok(same(bank, pair.left.term, pair.right.term));
     }
+    if is_noted(bank, store, links.as_slice(), known, pair) {
+        return Ok(true);
+    }
+    put_mark(bank, store, links.as_slice(), work.as_slice(), pair, marks)?;
     turn(bank, store, links, work, pair)
 }
 
@@ -321,26 +334,39 @@ fn first(left: TermId, right: TermId) -> Pair
     }
 }
 
-/// Compares two terms, with no links and nothing left to compare at first.
+/// Compares two terms, with no links, nothing left to compare and nothing noted at first.
 fn run(
     bank: &Bank<'_>,
     store: &Store,
     links: &mut Vec<Link>,
     work: &mut Vec<Pair>,
-    left: TermId,
-    right: TermId,
+    known: &mut IndexMap<TermId, TermId>,
+    marks: &mut Vec<Mark>,
+    pair: Pair,
 ) -> Result<bool, NoMemory>
     requires store { HasStore bank.now store.now }
     requires kept { IsStore (store_of bank.now store.now) }
-    requires left { IsTermOver bank.now (store_of bank.now store.now).variables left }
-    requires right { IsTermOver bank.now (store_of bank.now store.now).variables right }
+    requires left { IsTermOver bank.now (store_of bank.now store.now).variables pair.left.term }
+    requires right { IsTermOver bank.now (store_of bank.now store.now).variables pair.right.term }
+    requires first { pair ≡ first_pair pair.left.term pair.right.term }
     requires links { links.old.items ≡ [] }
     requires work { work.old.items ≡ [] }
-    ensures { IfOk result (λ b. b ≡ same_pair bank.now (store_of bank.now store.now) [] (first_pair left right)) }
+    requires known { known.old.entries ≡ [] }
+    requires marks { marks.old.items ≡ [] }
+    ensures { IfOk result (λ b. b ≡ same_pair bank.now (store_of bank.now store.now) [] pair) }
 {
-    work.push(first(left, right))?;
-    while let Some(pair) = work.pop() {
-        if !step(bank, store, links, work, pair)? {
+    work.push(pair)?;
+    while let Some(next) = work.pop() {
+        note_marks(
+            bank,
+            store,
+            links.as_slice(),
+            work.as_slice(),
+            next,
+            known,
+            marks,
+        )?;
+        if !step(bank, store, links, work, known, marks, next)? {
             return Ok(false);
         }
     }
@@ -362,5 +388,15 @@ pub(crate) fn reads_alike(
 {
     let mut links = Vec::new(bank.allocator());
     let mut work = Vec::new(bank.allocator());
-    run(bank, store, &mut links, &mut work, left, right)
+    let mut known = IndexMap::new(bank.allocator());
+    let mut marks = Vec::new(bank.allocator());
+    run(
+        bank,
+        store,
+        &mut links,
+        &mut work,
+        &mut known,
+        &mut marks,
+        first(left, right),
+    )
 }

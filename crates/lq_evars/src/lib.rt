@@ -5,6 +5,7 @@ mod comparing;
 mod copying;
 mod filling;
 mod labels;
+mod noting;
 mod reading;
 mod rebuilding;
 mod scopes;

@@ -287,8 +287,8 @@ impl Store {
     }
 
     /// Whether two terms as they read are equal but for the names of binders, however large they are. Nothing is built, and the only
-    /// refusal is for want of memory: what is left to compare stands on a stack on the heap. Parts that stand for themselves are
-    /// compared in one step. The time is at most in proportion to what both terms as they read have of nodes and of variables on the way.
+    /// refusal is for want of memory: what is left to compare stands on a stack on the heap. Parts without variables that stand for
+    /// themselves are compared in one step, and two terms with nothing around them that occur often are compared once.
     pub fn same(&self, bank: &Bank<'_>, left: TermId, right: TermId) -> Result<bool, NoMemory>
         requires store { HasStore bank.now self.now }
         requires kept { IsStore (store_of bank.now self.now) }
