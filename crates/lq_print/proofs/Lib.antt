@@ -1,0 +1,13 @@
+pub mod Lists
+pub mod TableLaws
+pub mod SpellLaws
+pub mod NameLaws
+pub mod WriteLaws
+pub mod PieceLaws
+pub mod FamilyLaws
+pub mod VisitLaws
+pub mod NumberLaws
+pub mod AmongLaws
+pub mod PageLaws
+pub mod BackLaws
+pub mod GoalLaws
