@@ -96,8 +96,8 @@ pub fn written_text(
         → ReadsTo (check_sentence (env_of bank.now env.now) (tree_of bank.now term))
         (stated 0 (command (check (surface (env_of bank.now env.now) [] (tree_of bank.now term)))))) }
     ensures elaborates_back { IfOk result (λ _. (u : Tree) → IsPlain (env_of bank.now env.now) (tree_of bank.now term) → Within 0 (tree_of bank.now term)
-    ensures elaborates_back { IfOk result (λ _. (u : Tree)
-        → IsPlain (env_of bank.now env.now) (tree_of bank.now term) → Within 0 (tree_of bank.now term)
+        → IsDeclared (env_of bank.now env.now) (tree_of bank.now term)
+        → HoldsOnly (map (λ h. h.name) (context_of bank.now context.now)) (tree_of bank.now term)
         → AllByRecursion (λ h. is_listed (globals (env_of bank.now env.now) (tree_of bank.now term)) h.name ≡ false) (context_of bank.now context.now)
         → Elaborates (env_of bank.now env.now) (context_of bank.now context.now) (surface (env_of bank.now env.now) [] (tree_of bank.now term)) u
         → Same u (tree_of bank.now term)) }
