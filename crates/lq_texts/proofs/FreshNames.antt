@@ -162,5 +162,5 @@ pub fresh_apart : (taken ns : List Name) (x : Name) → ((y : Name) → is_liste
 fresh_apart taken ns x within few = by (nat_lt (length taken) (2 ^ 64)) refl
   where
     by : (b : Bool) → nat_lt (length taken) (2 ^ 64) ≡ b → is_listed taken (fresh_of taken x) ≡ false
-    by true e = fresh_of_new taken x (ltb-true (length taken) (2 ^ 64) e)
+    by true e = let l = ltb-true (length taken) (2 ^ 64) e in fresh_of_new taken x (omega (arith, l))
     by false e = many_apart taken ns x within few (ltb-false (length taken) (2 ^ 64) e)
