@@ -11,3 +11,9 @@ pub mod FormsUnread
 pub mod StepLaws
 pub mod ReduceSteps
 pub mod StandLaws
+pub mod ExposeLaws
+pub mod ExposeSteps
+pub mod InvertLaws
+pub mod PairLaws
+pub mod LeafLaws
+pub mod FormLaws

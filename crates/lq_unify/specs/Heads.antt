@@ -19,6 +19,11 @@ HasOpenHead as_ (Ctor c k) = Unit {0}
 HasOpenHead as_ (Elim c s) = Unit {0}
 HasOpenHead as_ (Evar n ts) = find_value as_ n ≡ None
 
+-- a tree is no application
+abbrev pub IsHead : Tree → Type 0
+IsHead (App f a) = ⊥
+IsHead t = Unit {0}
+
 -- how often values may be put in for the head, `w` being how often for each variable
 abbrev mutual
   pub tops : (ℕ → ℕ) → Tree → ℕ

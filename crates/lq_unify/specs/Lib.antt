@@ -4,3 +4,6 @@ pub mod Heads
 pub mod Unread
 pub mod Working
 pub mod Standing
+pub mod Exposing
+pub mod Pairs
+pub mod Forms

@@ -1,9 +1,10 @@
 -- A term with its hypotheses replaced: by the terms that a list gives for them, where the others stay, or where there is no answer for another one.
-use Rattle.std.specs.Prelude.{◌≡◌, ℕ, Bool, true, false, eqb, List, [], ◌∷◌, Option, Some, None}
+use Rattle.std.specs.Prelude.{◌≡◌, ℕ, Bool, true, false, eqb, List, [], ◌∷◌, map, Option, Some, None, if◌then◌else◌}
 use Rattle.std.specs.List.{AllByRecursion}
-use Rattle.lq_trees.specs.Tree.{Name, Tree, Trees, none, more, value_of}
+use Rattle.lq_trees.specs.Tree.{Name, Tree, Trees, none, more, same_name, value_of}
 use Rattle.lq_trees.specs.Tree.Tree.{Rel, Var, Sort, Prod, Lam, Let, App, Const, Ind, Ctor, Elim, Evar}
 use Rattle.lq_trees.specs.Index.{Within}
+use Rattle.lq_terms.specs.declared.nodes.Hypothesis.{Hypothesis}
 use Rattle.lq_terms.specs.declared.nodes.NameId.{NameId}
 use Rattle.lq_terms.specs.declared.nodes.TermId.{TermId}
 use Rattle.lq_terms.specs.Terms.{Terms, HasName, HasTerm, text_of, tree_of}
@@ -86,3 +87,12 @@ AreSolved bank k stays es known = AllByRecursion (IsSolved bank k stays es) know
 -- terms without loose bound variables
 abbrev pub AreClosed : Terms → List TermId → Type 0
 AreClosed bank ts = AllByRecursion (λ t. Within 0 (tree_of bank t)) ts
+
+-- the names of hypotheses
+abbrev pub names_of : Terms → List Hypothesis → List Name
+names_of bank hs = map (λ h. text_of bank h.name) hs
+
+-- an entry that is a hypothesis, put ahead of others, has the hypothesis y for its place
+unfoldable pub place_more : Name → Tree → (Name → Option Tree) → Name → Option Tree
+place_more y (Var z) others x = if same_name z x then Some (Var y) else others x
+place_more y _ others x = others x

@@ -1,7 +1,11 @@
 //! Unification.
 #![tactic(auto)]
 
+mod exposing;
+mod forms;
 mod givens;
+mod inverting;
+mod pairs;
 mod parts;
 mod replacing;
 mod spines;
