@@ -1,8 +1,8 @@
 -- What is printed of a term is read again, and elaborated to itself: a printed term has few names, and is not deep.
-use Rattle.std.proofs.Common.{◌≡◌, ℕ, ◌+◌, ◌<◌, ◌≤◌, ◌^◌, Bool, true, false, List, [], ◌∷◌, ◌++◌, map, length, refl, sym, ap, ◌∙◌, subst, arith, length-append, append_assoc}
-use Rattle.std.specs.Prelude.{◌||◌, max}
+use Rattle.std.proofs.Common.{◌≡◌, ℕ, ◌+◌, ◌<◌, ◌≤◌, ◌^◌, Bool, true, false, List, [], ◌∷◌, ◌++◌, map, length, refl, ap, ◌∙◌, subst, arith, length-append, append_assoc}
+use Rattle.std.specs.Prelude.{◌||◌}
 use Rattle.std.specs.List.{AllByRecursion}
-use Rattle.lq_trees.specs.Tree.{Name, Tree, Context, same_name}
+use Rattle.lq_trees.specs.Tree.{Name, Tree, Context}
 use Rattle.lq_trees.specs.Tree.Tree.{Rel, Var, Sort, Prod, Lam, Let, App, Const, Ind, Ctor, Elim, Evar}
 use Rattle.lq_trees.specs.Size.{depth}
 use Rattle.lq_trees.specs.Same.{Same}
@@ -12,7 +12,7 @@ use Rattle.lq_trees.specs.Fresh.{is_listed}
 use Rattle.lq_calculus.specs.Declarations.{Env}
 use Rattle.lq_ast.specs.Commands.{stated, command, check}
 use Rattle.lq_texts.specs.Printing.{names_in, surface}
-use Rattle.lq_texts.specs.ReadBack.{IsPlain, IsDeclared, HasFewNames, IsPrintable, StandsIn, ReadsTo, check_sentence, globals}
+use Rattle.lq_texts.specs.ReadBack.{IsPlain, IsDeclared, HasFewNames, ReadsTo, check_sentence, globals}
 use Rattle.lq_texts.specs.Elaborated.{Elaborates}
 use Rattle.lq_texts.proofs.Closing.{same_self}
 use Rattle.lq_texts.proofs.ReadsBackLaw.{reads_back}

@@ -1,17 +1,15 @@
 -- The printed names of constructors.
-use Rattle.std.proofs.Common.{◌≡◌, ℕ, zero, suc, ◌<◌, ◌≤◌, List, [], ◌∷◌, map, length, get_or, Option, Some, None, refl, sym, ap, ◌∙◌, subst, arith}
-use Rattle.std.specs.List.{AllByRecursion}
-use Rattle.lq_trees.specs.Tree.{Name, Tree}
+use Rattle.std.proofs.Common.{◌≡◌, ℕ, zero, suc, ◌<◌, ◌≤◌, List, [], ◌∷◌, length, get_or, Option, Some, None, refl, ap, subst, arith}
 use Rattle.lq_trees.specs.declared.Sort.{Sort as Universe}
-use Rattle.lq_calculus.specs.Declarations.{Entry as TreeEntry, family, lookup}
-use Rattle.lq_terms.specs.Terms.{Terms, HasName, text_of, tree_of}
+use Rattle.lq_calculus.specs.Declarations.{Entry as TreeEntry}
+use Rattle.lq_terms.specs.Terms.{Terms, text_of}
 use Rattle.lq_terms.specs.declared.nodes.NameId.{NameId}
 use Rattle.lq_terms.specs.declared.nodes.TermId.{TermId}
 use Rattle.lq_env.specs.declared.environment.Entry.{Entry}
 use Rattle.lq_env.specs.declared.family.Family.{Family}
-use Rattle.lq_env.specs.Environments.{Looks, entry_of, IsOwn}
-use Rattle.lq_env.specs.Families.{HasConstructor, constructors_of, constructor_of}
-use Rattle.lq_texts.specs.Printing.{nth_name, constructor_in, constructor_name}
+use Rattle.lq_env.specs.Environments.{Looks}
+use Rattle.lq_env.specs.Families.{constructors_of}
+use Rattle.lq_texts.specs.Printing.{nth_name, constructor_in}
 use Rattle.lq_print.specs.Works.{IsFamilyAt}
 
 module _ (bank : Terms) (t : Option TreeEntry) where

@@ -1,6 +1,6 @@
 -- The printed binders, what pieces put on, and what stays while a term is written.
 use Rattle.std.proofs.Common.{◌≡◌, ℕ, zero, suc, ◌+◌, ◌*◌, ◌-◌, ◌<◌, ◌≤◌, Bool, true, false, List, [], ◌∷◌, ◌++◌, map, length, take, get_or, Option, Some, None, refl, sym, ap, ◌∙◌, subst, arith, length-append, append-nil, append_assoc}
-use Rattle.std.specs.Prelude.{reverse, option_map, slice_get, codes, Result, Ok, Err, OnOk, MatchOption}
+use Rattle.std.specs.Prelude.{reverse, option_map, slice_get, codes, Result, OnOk, MatchOption}
 use Rattle.std.specs.List.{AllByRecursion}
 use Rattle.std.proofs.lemmas.List.{length-reverse, length-map, get_or-reverse, map-append, reverse-reverse}
 use Rattle.std.proofs.lemmas.Option.{slice_get-map, slice_get-get_or, slice_get_past}
@@ -17,7 +17,7 @@ use Rattle.lq_print.specs.declared.steps.Item.{Item}
 use Rattle.lq_print.specs.Tables.{text_at, Lengthens, AreWithin}
 use Rattle.lq_print.specs.Flat.{node_of, parts_of, flat, flats}
 use Rattle.lq_print.specs.Writing.{Step, word, term, under, back, Written, further_out, act, play, opening, closing, product_steps, at_once, steps_for}
-use Rattle.lq_print.specs.Pieces.{shown_in, shown_all, HasPiece, IsSpelling}
+use Rattle.lq_print.specs.Pieces.{shown_in, shown_all, HasPiece}
 use Rattle.lq_print.specs.Pages.{printed, sign_text, kind_of, step_in, steps_in, HasItem, closing_items, binder_items, product_items, local_items, HasPage, Writes, Puts}
 use Rattle.lq_print.proofs.Lists.{all_append, all_front, all_back, all_push, all_reverse, all_weaker, push_nearest}
 use Rattle.lq_print.proofs.TableLaws.{text_kept, within_kept, within_all_kept, texts_kept}

@@ -1,5 +1,5 @@
 -- What pieces stand for stays where texts and names are added.
-use Rattle.std.proofs.Common.{◌≡◌, ℕ, ◌+◌, ◌-◌, ◌<◌, ◌≤◌, Bool, false, List, [], ◌∷◌, ◌++◌, map, length, take, drop, refl, sym, ap, ◌∙◌, subst, arith, length-append, append-nil, append_assoc}
+use Rattle.std.proofs.Common.{◌≡◌, ℕ, ◌-◌, ◌<◌, ◌≤◌, Bool, false, List, [], ◌∷◌, ◌++◌, map, length, take, drop, refl, sym, ap, ◌∙◌, subst, arith, length-append, append-nil}
 use Rattle.std.specs.Prelude.{reverse}
 use Rattle.std.specs.List.{AllByRecursion}
 use Rattle.std.proofs.lemmas.List.{map-append, take-append-le, take-map, drop-append-le, length-drop}
@@ -10,9 +10,9 @@ use Rattle.lq_print.specs.declared.pieces.Piece.{Piece}
 use Rattle.lq_print.specs.declared.spelling.Spelling.{Spelling}
 use Rattle.lq_print.specs.Tables.{text_at, IsText, Lengthens, AreWithin}
 use Rattle.lq_print.specs.Spelling.{Over, Shown, named, product, function, local, unknown, Spelled, emit, put_name, put_bound, enter, hide, marked}
-use Rattle.lq_print.specs.Pieces.{inside_of, over_in, shown_in, shown_all, HasBinder, HasPiece, spelled_of, IsSpelling, Longer, Spells}
-use Rattle.lq_print.proofs.TableLaws.{lengthens_self, lengthens_trans, text_kept, within_kept, within_all_kept, texts_kept, text_is, text_within}
-use Rattle.lq_print.proofs.Lists.{all_append, all_push, all_take, all_drop, push_nearest}
+use Rattle.lq_print.specs.Pieces.{over_in, shown_in, shown_all, HasBinder, HasPiece, spelled_of, IsSpelling, Spells}
+use Rattle.lq_print.proofs.TableLaws.{lengthens_self, text_kept, within_kept, within_all_kept, texts_kept, text_is, text_within}
+use Rattle.lq_print.proofs.Lists.{all_push, all_take, all_drop, push_nearest}
 
 -- the names between two places
 between_kept : (ns more : List ℕ) (low high : ℕ) → low ≤ high → high ≤ length ns → take (high - low) (drop low (ns ++ more)) ≡ take (high - low) (drop low ns)

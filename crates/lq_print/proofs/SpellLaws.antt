@@ -1,5 +1,5 @@
 -- What is spelled of a term: its names, the binders that it uses, its pieces.
-use Rattle.std.proofs.Common.{◌≡◌, ℕ, zero, suc, ◌≤◌, Bool, true, false, List, [], ◌∷◌, ◌++◌, length, take, drop, refl, sym, ap, ◌∙◌, arith, append_assoc, append-nil, eq-eqb}
+use Rattle.std.proofs.Common.{◌≡◌, ℕ, zero, suc, ◌≤◌, Bool, true, false, List, [], ◌∷◌, ◌++◌, length, refl, sym, ap, ◌∙◌, arith, append_assoc, append-nil, eq-eqb}
 use Rattle.std.specs.Prelude.{◌||◌, ◌+◌}
 use Rattle.std.proofs.lemmas.Bool.{ne_eqb}
 use Rattle.std.proofs.Math.Seq.{take-append_seam, drop-append_seam}
@@ -7,7 +7,7 @@ use Rattle.lq_trees.specs.Tree.{Name, Tree, Trees, none, more}
 use Rattle.lq_trees.specs.Tree.Tree.{Rel, Var, Sort, Prod, Lam, Let, App, Const, Ind, Ctor, Elim, Evar}
 use Rattle.lq_calculus.specs.Declarations.{Env, eliminator_name}
 use Rattle.lq_texts.specs.Printing.{uses, uses_any, constructor_name}
-use Rattle.lq_print.specs.Spelling.{Spelled, Over, Shown, bound, named, sort, applied, product, function, local, unknown, marked, nearest, outer, emit, put_name, put_bound, enter, leave, over, hide, spell, spell_each}
+use Rattle.lq_print.specs.Spelling.{Spelled, Over, Shown, named, applied, product, function, local, unknown, marked, emit, put_name, enter, leave, over, hide, spell, spell_each}
 use Rattle.lq_print.specs.Flat.{names_back, names_back_each, over_of, flat, or_each, used_by}
 
 -- ---- the binders that are used

@@ -2,8 +2,8 @@
 use Rattle.std.proofs.Common.{◌≡◌, ℕ, ◌+◌, ◌*◌, ◌-◌, ◌<◌, ◌≤◌, Bool, List, [], ◌∷◌, ◌++◌, map, length, take, drop, refl, sym, ap, ◌∙◌, subst, arith, length-append, append-nil, append_assoc}
 use Rattle.std.specs.Prelude.{Result, Ok, Err, OnOk, reverse}
 use Rattle.std.specs.List.{AllByRecursion}
-use Rattle.std.proofs.lemmas.List.{length-map, length-drop, map-append, take_all, take-map, drop-map}
-use Rattle.lq_trees.specs.Tree.{Name, Tree, Trees, none, more}
+use Rattle.std.proofs.lemmas.List.{length-map, length-drop, take_all, drop-map}
+use Rattle.lq_trees.specs.Tree.{Name, Tree}
 use Rattle.lq_trees.specs.Tree.Tree.{Rel, Var, Sort, Prod, Lam, Let, App, Const, Ind, Ctor, Elim, Evar}
 use Rattle.lq_trees.specs.Size.{size, sizes}
 use Rattle.lq_calculus.specs.Declarations.{Env}
@@ -17,12 +17,12 @@ use Rattle.lq_print.specs.declared.work.Scope.{Scope}
 use Rattle.lq_print.specs.declared.work.Work.{Work}
 use Rattle.lq_print.specs.declared.spelling.Spelling.{Spelling}
 use Rattle.lq_print.specs.Tables.{text_at}
-use Rattle.lq_print.specs.Spelling.{Over, Shown, product, function, local, Spelled, emit, put_name, enter, leave, over, hide, nearest, spell, spell_each}
-use Rattle.lq_print.specs.Pieces.{inside_of, over_in, shown_in, shown_all, HasBinder, HasPiece, spelled_of, IsSpelling, Longer, Spells}
+use Rattle.lq_print.specs.Spelling.{Over, product, function, local, Spelled, emit, put_name, enter, leave, over, hide, nearest, spell, spell_each}
+use Rattle.lq_print.specs.Pieces.{inside_of, shown_in, HasPiece, spelled_of, IsSpelling, Longer, Spells}
 use Rattle.lq_print.specs.Works.{AreSorts, EachSorts, IsPrinted, over_at, done, run, HasScope, HasWork, weight, weights, Turned, Closes}
 use Rattle.lq_print.proofs.TableLaws.{lengthens_self, lengthens_trans}
-use Rattle.lq_print.proofs.Lists.{all_append, all_front, all_back, all_weaker}
-use Rattle.lq_print.proofs.PieceLaws.{shown_kept, has_kept, spells_by}
+use Rattle.lq_print.proofs.Lists.{all_append, all_front, all_weaker}
+use Rattle.lq_print.proofs.PieceLaws.{shown_kept, has_kept}
 
 -- from an answer to what follows
 pub on_ok : {P Q : Type 0} (r : Result (Unit {0}) NoMemory) → OnOk r P → (P → Q) → OnOk r Q

@@ -1,14 +1,13 @@
 -- The steps that a piece leaves write the text of its term.
 use Rattle.std.proofs.Common.{◌≡◌, ℕ, Bool, true, false, List, [], ◌∷◌, ◌++◌, refl, sym, ap, ◌∙◌, append_assoc, append-nil}
-use Rattle.std.specs.Prelude.{nat_lt, slice_get, codes, decimal}
+use Rattle.std.specs.Prelude.{nat_lt, codes}
 use Rattle.lq_trees.specs.declared.Sort.{Sort as Universe}
-use Rattle.lq_trees.specs.Tree.{Name, Tree, Trees}
+use Rattle.lq_trees.specs.Tree.{Name, Tree}
 use Rattle.lq_trees.specs.Tree.Tree.{Rel, Var, Sort, Prod, Lam, Let, App, Const, Ind, Ctor, Elim, Evar}
 use Rattle.lq_calculus.specs.Declarations.{Env}
-use Rattle.lq_ast.specs.Syntax.{Surface}
-use Rattle.lq_texts.specs.Printing.{printed_name, bound_name, sort_surface, sort_text, product_surface, surface, name_text, in_brackets, text, kind_text}
-use Rattle.lq_print.specs.Spelling.{Over, Shown, bound, named, sort, applied, product, function, local, unknown}
-use Rattle.lq_print.specs.Flat.{over_of, node_of, parts_of, flat, flats, name_for}
+use Rattle.lq_texts.specs.Printing.{printed_name, sort_surface, sort_text, product_surface, surface, name_text, in_brackets, text, kind_text}
+use Rattle.lq_print.specs.Spelling.{applied}
+use Rattle.lq_print.specs.Flat.{node_of, parts_of, flat, flats}
 use Rattle.lq_print.specs.Writing.{Step, word, term, under, back, Written, act, play, opening, closing, product_front, binder_front, at_once, product_steps, steps_for}
 use Rattle.lq_print.proofs.NameLaws.{name_is}
 

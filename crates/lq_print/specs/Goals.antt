@@ -1,5 +1,5 @@
 -- The goals and proofs of a bank over texts and trees, and what callers promise of them.
-use Rattle.std.specs.Prelude.{List, map, Option, Some, None, option_map}
+use Rattle.std.specs.Prelude.{map, Option, Some, None, option_map}
 use Rattle.std.specs.List.{AllByRecursion}
 use Rattle.lq_terms.specs.Terms.{Terms, HasName, text_of, tree_of}
 use Rattle.lq_terms.specs.Contexts.{context_of}

@@ -10,7 +10,7 @@ use Rattle.lq_print.specs.declared.steps.Wanted.{Wanted}
 use Rattle.lq_print.specs.declared.steps.Item.{Item}
 use Rattle.lq_print.specs.Tables.{text_at, AreWithin}
 use Rattle.lq_print.specs.Flat.{flats}
-use Rattle.lq_print.specs.Writing.{Step, word, term, under, back, Written, play}
+use Rattle.lq_print.specs.Writing.{Step, word, term, under, back, play}
 use Rattle.lq_print.specs.Pieces.{shown_all, IsSpelling}
 
 -- the printed binders, the nearest first

@@ -1,5 +1,5 @@
 -- What the pieces of a term stand for, by a bank, the texts by number, and the names that occur in the term.
-use Rattle.std.specs.Prelude.{◌≡◌, ◌≤◌, ◌<◌, ◌-◌, ℕ, List, [], ◌++◌, map, length, reverse, take, drop}
+use Rattle.std.specs.Prelude.{◌≡◌, ◌≤◌, ◌<◌, ◌-◌, ℕ, List, ◌++◌, map, length, reverse, take, drop}
 use Rattle.std.specs.List.{AllByRecursion}
 use Rattle.lq_trees.specs.Tree.{Name}
 use Rattle.lq_terms.specs.Terms.{Terms, HasName, text_of}

@@ -1,7 +1,6 @@
 -- What is left to do while a term is spelled: a change of what has been spelled.
 use Rattle.std.specs.Prelude.{◌≡◌, ◌≤◌, ◌<◌, ◌+◌, ◌*◌, ℕ, List, [], ◌∷◌, ◌++◌, length, Option, Some, None}
 use Rattle.std.specs.List.{AllByRecursion}
-use Rattle.lq_trees.specs.declared.Sort.{Sort as Universe}
 use Rattle.lq_trees.specs.Tree.{Tree, Trees, none, more}
 use Rattle.lq_trees.specs.Tree.Tree.{Rel, Var, Sort, Prod, Lam, Let, App, Const, Ind, Ctor, Elim, Evar}
 use Rattle.lq_trees.specs.Size.{size}
@@ -12,11 +11,10 @@ use Rattle.lq_terms.specs.declared.nodes.TermId.{TermId}
 use Rattle.lq_env.specs.declared.family.Family.{Family}
 use Rattle.lq_env.specs.Families.{IsSort, HasConstructor, constructors_of}
 use Rattle.lq_print.specs.declared.pieces.Binder.{Binder}
-use Rattle.lq_print.specs.declared.pieces.Piece.{Piece}
 use Rattle.lq_print.specs.declared.work.Scope.{Scope}
 use Rattle.lq_print.specs.declared.work.Work.{Work}
 use Rattle.lq_print.specs.declared.spelling.Spelling.{Spelling}
-use Rattle.lq_print.specs.Spelling.{Over, Shown, product, function, local, Spelled, emit, leave, over, hide, spell}
+use Rattle.lq_print.specs.Spelling.{Over, product, function, local, Spelled, emit, leave, over, hide, spell}
 use Rattle.lq_print.specs.Pieces.{shown_in, over_in, HasBinder, HasPiece, spelled_of, IsSpelling, Longer}
 
 -- the sorts of a term's eliminators are sorts

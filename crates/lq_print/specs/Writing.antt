@@ -3,7 +3,7 @@ use Rattle.std.specs.Prelude.{ℕ, Bool, true, false, List, [], ◌∷◌, ◌++
 use Rattle.lq_trees.specs.Tree.{Name, Tree}
 use Rattle.lq_calculus.specs.Declarations.{Env}
 use Rattle.lq_texts.specs.Printing.{bound_name, sort_text, name_text, surface, text}
-use Rattle.lq_print.specs.Spelling.{Over, Shown, bound, named, sort, applied, product, function, local, unknown}
+use Rattle.lq_print.specs.Spelling.{Shown, bound, named, sort, applied, product, function, local, unknown}
 use Rattle.lq_print.specs.Flat.{name_for}
 
 -- a step: a word is written; the next term is written where one of a kind is wanted; a printed binder begins; it ends

@@ -1,4 +1,4 @@
-use Rattle.std.proofs.Common.{length, arith, refl, sym, ◌∙◌}
+use Rattle.std.proofs.Common.{length, arith, refl}
 use Rattle.lq_print.specs.Tables.{text_at}
 use Rattle.lq_terms.proofs.NumberLaws.{used_none}
 use Rattle.lq_print.proofs.NumberLaws.{used_more}

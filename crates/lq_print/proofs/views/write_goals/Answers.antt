@@ -1,4 +1,3 @@
-use Rattle.std.proofs.Common.{◌∙◌, ap, sym, ◌++◌, append-nil, length}
 use Rattle.std.specs.String.{string_bytes}
 use Rattle.lq_env.specs.Environments.{env_of}
 use Rattle.lq_print.proofs.GoalLaws.{no_goals, one_more_goal}

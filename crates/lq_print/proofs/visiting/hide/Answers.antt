@@ -1,4 +1,4 @@
-use Rattle.std.proofs.Common.{rules, ◌∙◌, ap, ◌++◌, ◌∷◌, [], refl, List}
+use Rattle.std.proofs.Common.{◌∙◌, ap, ◌++◌, ◌∷◌, [], refl, List}
 use Rattle.lq_print.specs.declared.pieces.Piece.{Piece}
 use Rattle.lq_print.proofs.PieceLaws.{spells_hide}
 use Rattle.lq_print.proofs.visiting.hide.Goals as goal

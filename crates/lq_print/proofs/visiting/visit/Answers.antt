@@ -1,7 +1,7 @@
 use Rattle.std.proofs.Common.{rules, refl, ◌∙◌, ap, sym, subst, List}
 use Rattle.std.specs.List.{AllByRecursion}
 use Rattle.lq_terms.specs.declared.nodes.TermId.{TermId}
-use Rattle.lq_trees.specs.Tree.Tree.{Rel, Var, Sort, Prod, Lam, Let, App, Const, Ind, Ctor, Elim, Evar}
+use Rattle.lq_trees.specs.Tree.Tree.{Rel, Var, Sort, Const, Ind, Ctor, Elim, Evar}
 use Rattle.lq_terms.specs.Terms.{HasTerm, IsPart, text_of, tree_of, trees_by}
 use Rattle.lq_calculus.specs.Declarations.{eliminator_name}
 use Rattle.lq_texts.specs.Printing.{constructor_name}

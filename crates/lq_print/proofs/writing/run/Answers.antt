@@ -1,4 +1,4 @@
-use Rattle.std.proofs.Common.{◌≡◌, ◌∙◌, ◌<◌, ◌+◌, ◌*◌, ℕ, List, [], ◌∷◌, ◌++◌, length, refl, sym, ap, subst, arith, length-append}
+use Rattle.std.proofs.Common.{List, [], ◌∷◌, length, ap, subst, arith, length-append}
 use Rattle.std.specs.String.{string_bytes}
 use Rattle.lq_print.specs.declared.steps.Item.{Item}
 use Rattle.lq_print.specs.Pages.{HasPage, Writes}

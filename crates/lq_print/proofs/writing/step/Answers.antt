@@ -1,7 +1,5 @@
-use Rattle.std.proofs.Common.{◌∙◌, ap, sym, subst, refl, ◌++◌, ◌∷◌, [], List}
+use Rattle.std.proofs.Common.{◌∙◌, ap, refl, ◌++◌}
 use Rattle.std.specs.String.{string_bytes}
-use Rattle.lq_print.specs.declared.steps.Item.{Item}
-use Rattle.lq_print.specs.Pages.{HasPage, Writes}
 use Rattle.lq_print.proofs.VisitLaws.{on_ok}
 use Rattle.lq_print.proofs.PageLaws.{word_writes, under_writes, back_writes, page_under, page_ended, page_of, writes_of, ended}
 use Rattle.lq_print.proofs.writing.step.Goals as goal

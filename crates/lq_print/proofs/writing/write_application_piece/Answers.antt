@@ -1,4 +1,4 @@
-use Rattle.std.proofs.Common.{◌∙◌, ap, refl, sym, arith, ◌++◌}
+use Rattle.std.proofs.Common.{◌∙◌, ap, refl, arith, ◌++◌}
 use Rattle.std.specs.Prelude.{nat_lt}
 use Rattle.std.specs.String.{string_bytes}
 use Rattle.lq_print.specs.Writing.{opening}

@@ -1,12 +1,11 @@
-use Rattle.std.proofs.Common.{◌∙◌, ap, refl, sym, subst, rules, ◌++◌}
+use Rattle.std.proofs.Common.{ap}
 use Rattle.std.specs.Prelude.{nat_lt, codes}
 use Rattle.std.specs.String.{string_bytes}
-use Rattle.lq_print.specs.Tables.{text_at}
-use Rattle.lq_print.specs.Writing.{product_front, binder_front, product_steps}
+use Rattle.lq_print.specs.Writing.{binder_front}
 use Rattle.lq_print.specs.Pages.{kind_of}
 use Rattle.lq_print.proofs.TableLaws.{text_is, text_within}
 use Rattle.lq_print.proofs.VisitLaws.{on_ok, ok_always}
-use Rattle.lq_print.proofs.PageLaws.{front_is, puts_closed, product_has, product_few, product_are, function_has, function_few, function_are, local_has, local_few, local_are}
+use Rattle.lq_print.proofs.PageLaws.{front_is, puts_closed, function_has, function_few, function_are}
 use Rattle.lq_print.proofs.writing.write_function_piece.Goals as goal
 
 pub write_binder-requires : goal.write_binder-requires

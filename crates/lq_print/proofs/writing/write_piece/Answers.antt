@@ -1,10 +1,6 @@
-use Rattle.std.proofs.Common.{◌∙◌, ap, refl, sym, subst, ◌++◌}
+use Rattle.std.proofs.Common.{◌∙◌, ap, ◌++◌}
 use Rattle.std.specs.String.{string_bytes}
-use Rattle.lq_print.specs.declared.pieces.Piece.{Piece}
-use Rattle.lq_print.specs.Pieces.{HasPiece, shown_in}
-use Rattle.lq_print.specs.Writing.{at_once, steps_for}
-use Rattle.lq_print.specs.Pages.{kind_of, printed, Puts}
-use Rattle.lq_print.proofs.TableLaws.{lengthens_self}
+use Rattle.lq_print.specs.Pages.{kind_of, printed}
 use Rattle.lq_print.proofs.VisitLaws.{on_ok, ok_always}
 use Rattle.lq_print.proofs.PageLaws.{puts_none, writes_as, puts_as}
 use Rattle.lq_print.proofs.writing.write_piece.Goals as goal
