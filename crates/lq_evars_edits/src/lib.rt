@@ -5,5 +5,5 @@
 mod reading;
 mod variables;
 
-pub use reading::{assigned, read_through};
+pub use reading::{assigned, is_same, read_through};
 pub use variables::{back, copied, made, named, number_of_variables, retyped, value_of};

@@ -1,15 +1,16 @@
 //! Values, and terms as they read.
 
-ghost use Rattle.std.specs.Prelude.{◌≡◌, OnOk, OnErr};
+ghost use Rattle.std.specs.Prelude.{◌≡◌, OnOk, OnErr, IfOk};
 ghost use Rattle.lq_trees.specs.Index.{Within};
 ghost use Rattle.lq_terms.specs.Terms.{HasTerm, Grows, tree_of};
-ghost use Rattle.lq_solving.specs.Stores.{assigned, read_fitting};
+ghost use Rattle.lq_solving.specs.Stores.{assigned, read_fitting, reads_same};
 ghost use Rattle.lq_solving.specs.Kept.{IsStore, IsValue, IsOver};
 ghost use Rattle.lq_evars.specs.Places.{store_of, HasStore, one_given};
 ghost use Rattle.lq_evars.specs.Reading.{Answers, Gives};
+ghost use Rattle.lq_evars.specs.Closures.{IsTermOver};
 
 use lq_evars::{Store, StoreFault};
-use lq_terms::{Bank, TermId};
+use lq_terms::{Bank, NoMemory, TermId};
 
 /// The term with all values filled in.
 pub fn read_through(store: &Store, bank: &mut Bank<'_>, term: TermId) -> Result<TermId, StoreFault>
@@ -22,6 +23,22 @@ pub fn read_through(store: &Store, bank: &mut Bank<'_>, term: TermId) -> Result<
     ensures grows { Grows bank.old bank.new }
 {
     store.read(bank, term)
+}
+
+/// Whether two terms as they read are equal but for the names of binders.
+pub fn is_same(
+    store: &Store,
+    bank: &Bank<'_>,
+    left: TermId,
+    right: TermId,
+) -> Result<bool, NoMemory>
+    requires store { HasStore bank.now store.now }
+    requires kept { IsStore (store_of bank.now store.now) }
+    requires left { IsTermOver bank.now (store_of bank.now store.now).variables left }
+    requires right { IsTermOver bank.now (store_of bank.now store.now).variables right }
+    ensures { IfOk result (λ b. b ≡ reads_same (store_of bank.now store.now) (tree_of bank.now left) (tree_of bank.now right)) }
+{
+    store.same(bank, left, right)
 }
 
 /// A value for a variable that has none.
