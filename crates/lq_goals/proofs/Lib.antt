@@ -1,2 +1,5 @@
 pub mod ListLoops
 pub mod Exchanging
+pub mod Seeing
+pub mod Viewing
+pub mod ViewingGoals

@@ -3,5 +3,7 @@
 
 mod lists;
 mod proof;
+mod views;
 
 pub use proof::{GoalFault, Proof};
+pub use views::{GoalView, ProofView};
