@@ -152,7 +152,8 @@ fn gives_way(
     left: &[u32],
     focus: &[u32],
 ) -> Result<Vec<u32>, NoMemory>
-    ensures { IfOk result (λ v. v.items ≡ (if has focus.now first then placed first taken.now left.now focus.now else left.now ++ without taken.now focus.now)) }
+    ensures { IfOk result (λ v. v.items
+        ≡ (if has focus.now first then placed first taken.now left.now focus.now else left.now ++ without taken.now focus.now)) }
 {
     if has(focus, first) {
         placed(alloc, first, taken, left, focus)
