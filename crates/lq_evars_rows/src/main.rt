@@ -4,6 +4,7 @@
 
 mod rows;
 mod scenes;
+mod variables;
 
 use crate::rows::{RowFault, answer};
 use std::io;

@@ -1,12 +1,21 @@
 //! Rows over a store. `chain N`: of N variables each but the last is valued by the next; whether the first one reads as the last (1).
 //! `nest N`: each is valued by the successor of the next; how many nodes the first one reads as. `twice N`: each is valued by the
 //! next, applied to itself; the same. `copy N`: the same as `nest N`, read through a copy.
+//!
+//! Whether two terms are equal as they read (1 or 0), of N variables that are filled so: `same N`, by `chain`: the first and the last;
+//! `deep N`, by `nest`, and `wide N`, by `twice`: the first and what it is valued by; `apart N`, by `twice`: the first and the second;
+//! `uneven N`, by `twice`: the first and the last.
+//!
+//! `value N`: a variable is valued by N successors of the sort of propositions: 1. `back N`: by `chain`; when all values but one were taken
+//! back: how many variables have a value. `named N`: of N variables the last has a name: the number of the variable of that name. `kind N`:
+//! of N variables the first gets another type: whether it has that (1). `told N`: by `chain`: how many variables reduction finds valued.
 
 ghost use Rattle.std.specs.Prelude.{◌≡◌, IfOk};
 ghost use Rattle.lq_terms.specs.Terms.{HasTerm, Grows};
 ghost use Rattle.lq_evars_rows.specs.Looks.{HasSimple, IsSort, IsKept};
 
-use crate::scenes::{add, give, link, read_variable, sort, successor, twice};
+use crate::scenes::{add, alike, give, link, read_variable, sort, successor, twice};
+use crate::variables::{kind_row, named_row, told_row, valued};
 use lq_evars::{Store, StoreFault};
 use lq_terms::{Bank, NoMemory, TermId, measure};
 use std::alloc::Global;
@@ -118,6 +127,96 @@ fn reaches(bank: &mut Bank<'_>, store: &Store, many: u32) -> Result<u64, RowFaul
     Ok(if found == last { 1 } else { 0 })
 }
 
+/// Whether a variable reads as another one.
+fn reads_as(bank: &mut Bank<'_>, store: &Store, left: u32, right: u32) -> Result<u64, RowFault>
+    requires { IsKept bank.old store.now }
+{
+    let first = link(bank, left)?;
+    let second = link(bank, right)?;
+    let same = alike(bank, store, left, first, right, second)?;
+    Ok(u64::from(same))
+}
+
+/// Whether the first variable reads as what it is valued by.
+fn reads_as_value(bank: &mut Bank<'_>, store: &Store, shape: Shape) -> Result<u64, RowFault>
+    requires { IsKept bank.old store.now }
+{
+    let first = link(bank, 0)?;
+    let value = body(bank, shape, 1)?;
+    let same = alike(bank, store, 0, first, 1, value)?;
+    Ok(u64::from(same))
+}
+
+/// The values but the first are taken back: how many are left.
+fn taken_back(bank: &Bank<'_>, store: &mut Store) -> u64
+    requires { IsKept bank.now store.old }
+{
+    let _bank = bank;
+    store.take_back(1);
+    valued(store)
+}
+
+/// What a word asks of two terms.
+fn compared(
+    bank: &mut Bank<'_>,
+    store: &mut Store,
+    word: &str,
+    many: u32,
+) -> Result<u64, RowFault>
+    requires { IsKept bank.old store.old }
+{
+    let last = many.saturating_sub(1);
+    match word {
+        "same" => {
+            fill(bank, store, Shape::Chain, many)?;
+            reads_as(bank, store, 0, last)
+        }
+        "deep" => {
+            fill(bank, store, Shape::Nest, many)?;
+            reads_as_value(bank, store, Shape::Nest)
+        }
+        "wide" => {
+            fill(bank, store, Shape::Twice, many)?;
+            reads_as_value(bank, store, Shape::Twice)
+        }
+        "apart" => {
+            fill(bank, store, Shape::Twice, many)?;
+            reads_as(bank, store, 0, 1)
+        }
+        "uneven" => {
+            fill(bank, store, Shape::Twice, many)?;
+            reads_as(bank, store, 0, last)
+        }
+        _ => Err(RowFault::Malformed),
+    }
+}
+
+/// So many successors of a term.
+#[tactic(auto, using(crate::proofs::Keeping::keeping))]
+fn nested(bank: &mut Bank<'_>, variable: u32, term: TermId, many: u32) -> Result<TermId, NoMemory>
+    requires { HasSimple bank.old variable term }
+    ensures simple { IfOk result (HasSimple bank.new variable) }
+    ensures grows { Grows bank.old bank.new }
+{
+    let mut whole = term;
+    for _ in 0..many {
+        whole = successor(bank, variable, whole)?;
+    }
+    Ok(whole)
+}
+
+/// A variable is valued by so many successors of the sort of propositions: whether it reads as that.
+fn value_row(bank: &mut Bank<'_>, store: &mut Store, many: u32) -> Result<u64, RowFault>
+    requires { IsKept bank.old store.old }
+{
+    let sort = sort(bank)?;
+    add_all(bank, store, sort, 2)?;
+    let value = nested(bank, 1, sort, many)?;
+    give(bank, store, 0, 1, value)?;
+    let found = read_variable(bank, store, 0)?;
+    Ok(u64::from(found == value))
+}
+
 /// What a word asks of a store that is filled.
 fn asked(bank: &mut Bank<'_>, store: &mut Store, word: &str, many: u32) -> Result<u64, RowFault>
     requires { IsKept bank.old store.old }
@@ -140,14 +239,27 @@ fn asked(bank: &mut Bank<'_>, store: &mut Store, word: &str, many: u32) -> Resul
             let copy = store.copy(bank.allocator())?;
             size(bank, &copy)
         }
-        _ => Err(RowFault::Malformed),
+        "value" => value_row(bank, store, many),
+        "back" => {
+            fill(bank, store, Shape::Chain, many)?;
+            Ok(taken_back(bank, store))
+        }
+        "told" => {
+            fill(bank, store, Shape::Chain, many)?;
+            Ok(told_row(store))
+        }
+        _ => compared(bank, store, word, many),
     }
 }
 
 /// The same over an empty store.
 fn in_bank(bank: &mut Bank<'_>, word: &str, many: u32) -> Result<u64, RowFault> {
     let mut store = Store::new(bank.allocator())?;
-    asked(bank, &mut store, word, many)
+    match word {
+        "named" => named_row(bank, &mut store, many),
+        "kind" => kind_row(bank, &mut store, many),
+        _ => asked(bank, &mut store, word, many),
+    }
 }
 
 /// The answer to a line.

@@ -117,3 +117,28 @@ pub(crate) fn read_variable(bank: &mut Bank<'_>, store: &Store, id: u32) -> Resu
         Err(fault) => Err(RowFault::from(fault)),
     }
 }
+
+/// Whether two terms as they read are equal.
+pub(crate) fn alike(
+    bank: &Bank<'_>,
+    store: &Store,
+    variable: u32,
+    left: TermId,
+    other: u32,
+    right: TermId,
+) -> Result<bool, RowFault>
+    requires kept { IsKept bank.now store.now }
+    requires left { HasSimple bank.now variable left }
+    requires right { HasSimple bank.now other right }
+{
+    if !is_bare(bank, store, variable) {
+        return Err(RowFault::Malformed);
+    }
+    if !is_bare(bank, store, other) {
+        return Err(RowFault::Malformed);
+    }
+    match store.same(bank, left, right) {
+        Ok(same) => Ok(same),
+        Err(_) => Err(RowFault::NoMemory),
+    }
+}
