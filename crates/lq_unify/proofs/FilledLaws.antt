@@ -6,28 +6,9 @@ use Rattle.lq_trees.specs.Change.{lift, lift_each, put, standing}
 use Rattle.lq_trees.specs.Index.{Within, EachWithin}
 use Rattle.lq_trees.proofs.FillLaws.{let_is, lifted_below}
 use Rattle.lq_solving.proofs.LiftLaws.{put_each}
+use Rattle.lq_solving.proofs.EqualUnder.{lift_closed}
 use Rattle.lq_solving.specs.Unification.{two, three}
 use Rattle.lq_unify.specs.Solutions.{is_barred, solution, solution_each, or_itself}
-
--- a term whose bound variables lie below m is not raised from m on
-mutual
-  pub lift_closed : (a m : ℕ) (t : Tree) → Within m t → lift a m t ≡ t
-  lift_closed a m (Rel i) h = lifted_below a m i (omega (arith, h))
-  lift_closed a m (Var x) h = refl
-  lift_closed a m (Sort s) h = refl
-  lift_closed a m (Prod x A B) h = ap₂ (Prod x) (lift_closed a m A h.0) (lift_closed a (m + 1) B h.1)
-  lift_closed a m (Lam x A t) h = ap₂ (Lam x) (lift_closed a m A h.0) (lift_closed a (m + 1) t h.1)
-  lift_closed a m (Let x v A t) h = let_is x (lift_closed a m v h.0) (lift_closed a m A h.1) (lift_closed a (m + 1) t h.2)
-  lift_closed a m (App f b) h = ap₂ App (lift_closed a m f h.0) (lift_closed a m b h.1)
-  lift_closed a m (Const c) h = refl
-  lift_closed a m (Ind c) h = refl
-  lift_closed a m (Ctor c k) h = refl
-  lift_closed a m (Elim c s) h = refl
-  lift_closed a m (Evar n ts) h = ap (Evar n) (each_lift_closed a m ts h)
-
-  pub each_lift_closed : (a m : ℕ) (ts : Trees) → EachWithin m ts → lift_each a m ts ≡ ts
-  each_lift_closed a m none h = refl
-  each_lift_closed a m (more t ts) h = ap₂ more (lift_closed a m t h.0) (each_lift_closed a m ts h.1)
 
 -- terms without loose bound variables
 abbrev pub AllClosed : List (Name × Tree) → Type 0
@@ -40,7 +21,7 @@ given_or ps x = or_itself true x (value_of ps x)
 pub given_stands : (d : ℕ) (x : Name) (o : Option Tree) → ((v : Tree) → o ≡ Some v → Within 0 v) → or_itself true x o ≡ Some (standing o d x)
 unfolding or_itself
 given_stands d x None h = refl
-given_stands d x (Some v) h = ap Some (sym (lift_closed d 0 v (h v refl)))
+given_stands d x (Some v) h = ap Some (sym (lift_closed d 0 0 (omega arith) v (h v refl)))
 
 -- closed terms put in at any depth are the solution that keeps other hypotheses
 mutual

@@ -17,3 +17,6 @@ pub mod InvertLaws
 pub mod PairLaws
 pub mod LeafLaws
 pub mod FormLaws
+pub mod ApplicationLaws
+pub mod SolveUnread
+pub mod FormKept

@@ -7,3 +7,4 @@ pub mod Standing
 pub mod Exposing
 pub mod Pairs
 pub mod Forms
+pub mod Applications

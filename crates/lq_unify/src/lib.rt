@@ -1,6 +1,7 @@
 //! Unification.
 #![tactic(auto)]
 
+mod applications;
 mod exposing;
 mod forms;
 mod givens;

@@ -65,7 +65,11 @@ pub(crate) fn opened_under(
     requires kind { HasTerm bank.old kind }
     requires pair { HasPair bank.old pair }
     ensures under { IfOk result (λ u. IsUnder bank.new u
-        (record { name = fresh (context_of bank.old context.now) (text_of bank.old binder); body = option_map (tree_of bank.old) body; kind = tree_of bank.old kind })
+        (record {
+          name = fresh (context_of bank.old context.now) (text_of bank.old binder);
+          body = option_map (tree_of bank.old) body;
+          kind = tree_of bank.old kind;
+        })
         (opened (fresh (context_of bank.old context.now) (text_of bank.old binder)) (tree_of bank.old pair.left))
         (opened (fresh (context_of bank.old context.now) (text_of bank.old binder)) (tree_of bank.old pair.right))) }
     ensures grows { Grows bank.old bank.new }
