@@ -1,17 +1,16 @@
 -- The parts of two applications.
-use Rattle.std.proofs.Common.{◌≡◌, ◌≤◌, ◌<◌, ◌-◌, ◌∙◌, ℕ, zero, suc, Bool, true, false, ◌||◌, ◌&&◌, leb, refl, sym, ap, ap₂, arith, List, [], ◌∷◌, map, length, take, drop, Option, Some, None, Result, Ok, Err, IfOk}
+use Rattle.std.proofs.Common.{◌≡◌, ◌≤◌, ◌-◌, ◌∙◌, ℕ, zero, suc, Bool, true, false, ◌||◌, ◌&&◌, leb, refl, sym, ap, ap₂, arith, List, [], ◌∷◌, map, length, take, drop, Option, None, Result, Ok, Err, IfOk}
 use Rattle.std.proofs.Common.{subst as along}
 use Rattle.std.specs.List.{AllByRecursion}
 use Rattle.std.proofs.lemmas.List.{length-map, length-drop}
 use Rattle.std.proofs.Math.Seq.{take-length}
 use Rattle.lq_trees.specs.Tree.{Tree, Trees, Context}
-use Rattle.lq_trees.specs.Tree.Tree.{Rel, Var, Sort, Prod, Lam, Let, App, Const, Ind, Ctor, Elim, Evar}
+use Rattle.lq_trees.specs.Tree.Tree.{Evar}
 use Rattle.lq_terms.specs.declared.nodes.Node.{Node}
 use Rattle.lq_terms.specs.declared.nodes.TermId.{TermId}
-use Rattle.lq_terms.specs.Terms.{Terms, HasTerm, IsTerm, Grows, node_tree, tree_of, trees_by}
+use Rattle.lq_terms.specs.Terms.{Terms, HasTerm, IsTerm, Grows, node_tree, tree_of}
 use Rattle.lq_calculus.specs.Contraction.{apply}
 use Rattle.lq_solving.specs.Unification.{Sides, parts_of, is_variable, application_parts, split_last}
-use Rattle.lq_unify.proofs.PartLaws.{tree_is}
 
 pub variable_is : (T : Tree) (n : ℕ) (ts : Trees) → T ≡ Evar n ts → true ≡ is_variable T
 unfolding is_variable

@@ -1,5 +1,5 @@
 -- A term taken apart and put together with another head.
-use Rattle.std.proofs.Common.{◌≡◌, ◌<◌, ◌∙◌, ℕ, refl, sym, ap, arith, List, [], ◌∷◌, Option, Some, None}
+use Rattle.std.proofs.Common.{◌≡◌, ◌<◌, ◌∙◌, ℕ, sym, ap, List, [], ◌∷◌, Some}
 use Rattle.std.proofs.Common.{subst as along}
 use Rattle.lq_trees.specs.Tree.{Name, Tree, Trees}
 use Rattle.lq_trees.specs.Tree.Tree.{Rel, Var, Sort, Prod, Lam, Let, App, Const, Ind, Ctor, Elim, Evar}
@@ -9,8 +9,6 @@ use Rattle.lq_calculus.proofs.ConvSound.{spine_apply}
 use Rattle.lq_solving.specs.Stores.{Variable, Assigned, Store, body_at, names_at, find_value, read}
 use Rattle.lq_solving.specs.Kept.{IsOver, EachIsOver, IsStore}
 use Rattle.lq_solving.proofs.OverLaws.{put_over, entries_over, entries_within}
-use Rattle.lq_solving.proofs.ReadLaws.{given_over}
-use Rattle.lq_trees.specs.Change.{put}
 use Rattle.lq_trees.proofs.Reach.{within-instance}
 use Rattle.lq_trees.specs.Reading.{entries}
 use Rattle.std.specs.Prelude.{zip}

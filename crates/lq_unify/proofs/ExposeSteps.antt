@@ -4,28 +4,28 @@ use Rattle.std.proofs.Common.{subst as along}
 use Rattle.std.specs.Prelude.{zip, option_map}
 use Rattle.std.specs.List.{AllByRecursion}
 use Rattle.std.proofs.lemmas.List.{length-map}
-use Rattle.lq_trees.specs.Tree.{Name, Tree, Trees}
+use Rattle.lq_trees.specs.Tree.{Tree, Trees}
 use Rattle.lq_trees.specs.Tree.Tree.{Rel, Var, Sort, Prod, Lam, Let, App, Const, Ind, Ctor, Elim, Evar}
 use Rattle.lq_trees.specs.Change.{put, instance}
 use Rattle.lq_trees.specs.Index.{Within, EachWithin}
-use Rattle.lq_trees.specs.Reading.{Value, entries}
+use Rattle.lq_trees.specs.Reading.{Value}
 use Rattle.lq_terms.specs.declared.nodes.Hypothesis.{Hypothesis}
 use Rattle.lq_terms.specs.declared.nodes.Node.{Node}
 use Rattle.lq_terms.specs.declared.nodes.TermId.{TermId}
 use Rattle.lq_terms.specs.Terms.{Terms, HasTerm, IsTerm, Grows, node_tree, text_of, tree_of, trees_by}
 use Rattle.lq_terms.specs.Contexts.{HasContext}
 use Rattle.lq_terms.specs.Changes.{bindings, HasHypothesis}
-use Rattle.lq_terms.specs.Telling.{values_in, HasValue, HasValues}
+use Rattle.lq_terms.specs.Telling.{values_in}
 use Rattle.lq_calculus.specs.Contraction.{spine, apply}
 use Rattle.lq_solving.specs.Stores.{Variable, Assigned, Store, body_at, names_at, find_value, value_told, values_of, told_of, read}
-use Rattle.lq_solving.specs.Kept.{IsOver, EachIsOver, IsStore}
+use Rattle.lq_solving.specs.Kept.{IsOver, IsStore}
 use Rattle.lq_solving.proofs.ReadLaws.{given_over}
-use Rattle.lq_evars.specs.Places.{Places, store_of, body_at as kept_at, HasStore}
+use Rattle.lq_evars.specs.Places.{Places, store_of, body_at as kept_at}
 use Rattle.lq_unify.specs.Heads.{HasOpenHead, IsHead, head_rank}
 use Rattle.lq_unify.specs.Solutions.{AreClosed}
 use Rattle.lq_unify.specs.Exposing.{IsOfStore, IsHeadValue, IsUnfolded}
 use Rattle.lq_unify.proofs.PartLaws.{entries_map}
-use Rattle.lq_unify.proofs.ExposeLaws.{IsClosedOver, EachClosedOver, spine_over, open_spine, body_over, Unfolds, unfolds}
+use Rattle.lq_unify.proofs.ExposeLaws.{IsClosedOver, spine_over, open_spine, body_over, unfolds}
 
 -- the head of a term is no application
 pub spine_head : (t : Tree) (args : List Tree) → IsHead (spine t args).0

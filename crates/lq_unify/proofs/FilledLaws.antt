@@ -2,9 +2,8 @@
 use Rattle.std.proofs.Common.{◌≡◌, ◌+◌, ◌∙◌, ℕ, true, refl, sym, ap, ap₂, arith, List, Option, Some, None}
 use Rattle.lq_trees.specs.Tree.{Name, Tree, Trees, none, more, value_of}
 use Rattle.lq_trees.specs.Tree.Tree.{Rel, Var, Sort, Prod, Lam, Let, App, Const, Ind, Ctor, Elim, Evar}
-use Rattle.lq_trees.specs.Change.{lift, lift_each, put, standing}
-use Rattle.lq_trees.specs.Index.{Within, EachWithin}
-use Rattle.lq_trees.proofs.FillLaws.{let_is, lifted_below}
+use Rattle.lq_trees.specs.Change.{put, standing}
+use Rattle.lq_trees.specs.Index.{Within}
 use Rattle.lq_solving.proofs.LiftLaws.{put_each}
 use Rattle.lq_solving.proofs.EqualUnder.{lift_closed}
 use Rattle.lq_solving.specs.Unification.{two, three}

@@ -1,13 +1,11 @@
 -- The parts of two binders.
-use Rattle.std.proofs.Common.{◌≡◌, ◌+◌, ◌∙◌, ℕ, refl, sym, ap, ap₂, arith, List, [], ◌∷◌, ◌++◌, Option, Some, None}
+use Rattle.std.proofs.Common.{◌≡◌, ◌∙◌, refl, sym, ap, ap₂, arith, List, [], ◌∷◌, ◌++◌, Some, None}
 use Rattle.std.proofs.Common.{subst as along}
-use Rattle.std.specs.Prelude.{option_map}
 use Rattle.std.specs.List.{AllByRecursion}
 use Rattle.lq_trees.specs.Tree.{Name, Tree, Context, Hypothesis as TreeHypothesis}
 use Rattle.lq_trees.specs.Fresh.{under, under_let}
 use Rattle.lq_terms.specs.Terms.{Terms, Grows, tree_of}
-use Rattle.lq_terms.specs.Contexts.{hypothesis_of}
-use Rattle.lq_solving.specs.Unification.{Sides, sides}
+use Rattle.lq_solving.specs.Unification.{sides}
 use Rattle.lq_unify.specs.declared.pairs.Pair.{Pair}
 use Rattle.lq_unify.specs.declared.pairs.Under.{Under}
 use Rattle.lq_unify.specs.Pairs.{pairs_in, HasPair, IsUnder}

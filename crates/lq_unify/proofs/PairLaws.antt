@@ -1,20 +1,18 @@
 -- Terms pairwise, and what is under a binder.
-use Rattle.std.proofs.Common.{◌≡◌, ◌≤◌, ◌<◌, ◌+◌, ◌∙◌, ◌≢◌, ℕ, zero, suc, refl, sym, ap, ap₂, arith, List, [], ◌∷◌, ◌++◌, map, length, get_or, drop, append-nil, append_assoc, Option, Some, None}
+use Rattle.std.proofs.Common.{◌≡◌, ◌≤◌, ◌<◌, ◌+◌, ◌∙◌, ℕ, suc, refl, sym, ap, ap₂, arith, List, [], ◌∷◌, ◌++◌, map, length, get_or, drop, append-nil, append_assoc, Option, Some, None}
 use Rattle.std.proofs.Common.{subst as along}
 use Rattle.std.specs.Prelude.{option_map}
 use Rattle.std.specs.List.{AllByRecursion}
 use Rattle.std.proofs.lemmas.List.{drop_more}
 use Rattle.std.proofs.Math.ListN.{drop_of_length-le}
-use Rattle.lq_trees.specs.Tree.{Tree, Context, Hypothesis as TreeHypothesis}
+use Rattle.lq_trees.specs.Tree.{Tree, Context}
 use Rattle.lq_trees.specs.Fresh.{opened}
-use Rattle.lq_terms.specs.declared.nodes.Hypothesis.{Hypothesis}
 use Rattle.lq_terms.specs.declared.nodes.NameId.{NameId}
 use Rattle.lq_terms.specs.declared.nodes.TermId.{TermId}
-use Rattle.lq_terms.specs.Terms.{Terms, HasName, HasTerm, IsName, IsTerm, Grows, text_of, tree_of}
-use Rattle.lq_terms.specs.Contexts.{HasAllOf, HasBody, hypothesis_of}
+use Rattle.lq_terms.specs.Terms.{Terms, HasTerm, IsName, IsTerm, Grows, text_of, tree_of}
+use Rattle.lq_terms.specs.Contexts.{HasBody}
 use Rattle.lq_solving.specs.Unification.{Sides, sides, parts_of}
 use Rattle.lq_unify.specs.declared.pairs.Pair.{Pair}
-use Rattle.lq_unify.specs.declared.pairs.Under.{Under}
 use Rattle.lq_unify.specs.Pairs.{pairs_in, HasPair, IsUnder}
 
 -- lists of different length have no pairs

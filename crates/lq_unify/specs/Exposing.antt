@@ -6,7 +6,6 @@ use Rattle.lq_terms.specs.declared.nodes.TermId.{TermId}
 use Rattle.lq_terms.specs.Terms.{Terms, HasTerm, IsTerm, tree_of}
 use Rattle.lq_solving.specs.Stores.{Store, body_at, names_at, find_value, read}
 use Rattle.lq_solving.specs.Kept.{IsOver}
-use Rattle.lq_evars.specs.Places.{Places, store_of}
 use Rattle.lq_unify.specs.Heads.{head_rank}
 
 -- a term of the bank over the variables of a store, without loose bound variables

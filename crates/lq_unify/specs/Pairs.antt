@@ -1,5 +1,5 @@
 -- Pairs of terms of a bank, and the sides that they stand for.
-use Rattle.std.specs.Prelude.{◌≡◌, List, [], ◌∷◌, ◌++◌}
+use Rattle.std.specs.Prelude.{◌≡◌, List, [], ◌∷◌}
 use Rattle.lq_trees.specs.Tree.{Tree, Context, Hypothesis as TreeHypothesis}
 use Rattle.lq_terms.specs.Terms.{Terms, HasTerm, IsTerm, tree_of}
 use Rattle.lq_terms.specs.Contexts.{HasAllOf, hypothesis_of}

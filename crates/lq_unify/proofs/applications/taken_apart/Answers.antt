@@ -1,12 +1,10 @@
-use Rattle.std.proofs.Common.{rules, ◌≡◌, ◌≤◌, ◌∙◌, ◌∷◌, sym, ap, arith, map, length}
+use Rattle.std.proofs.Common.{rules, ◌≡◌, ◌∙◌, ◌∷◌, sym, ap, arith, map, length}
 use Rattle.std.proofs.Common.{subst as along}
-use Rattle.std.proofs.lemmas.List.{length-map}
 use Rattle.std.specs.List.{AllByRecursion}
-use Rattle.lq_calculus.specs.Contraction.{apply}
 use Rattle.lq_terms.specs.Terms.{HasTerm, tree_of}
 use Rattle.lq_terms.proofs.Growth.{has-grown}
-use Rattle.lq_solving.specs.Unification.{is_variable, split_last}
-use Rattle.lq_unify.proofs.ApplicationLaws.{all_fit, variable_list, other_list, counted}
+use Rattle.lq_solving.specs.Unification.{is_variable}
+use Rattle.lq_unify.proofs.ApplicationLaws.{variable_list, other_list, counted}
 use Rattle.lq_unify.proofs.applications.taken_apart.Goals as goal
 
 pub returns-clause-lists : goal.returns-clause-lists

@@ -1,8 +1,8 @@
-use Rattle.std.proofs.Common.{◌≡◌, ◌∙◌, ◌-◌, ◌∷◌, refl, sym, ap, arith, map, length, take, drop}
+use Rattle.std.proofs.Common.{◌≡◌, ◌-◌, ◌∷◌, refl, sym, ap, map, length, take, drop}
 use Rattle.std.proofs.Common.{subst as along}
 use Rattle.std.specs.List.{AllByRecursion}
 use Rattle.lq_calculus.specs.Contraction.{apply}
-use Rattle.lq_terms.specs.Terms.{HasTerm, IsTerm, tree_of}
+use Rattle.lq_terms.specs.Terms.{HasTerm, tree_of}
 use Rattle.lq_terms.proofs.Growth.{has-grown}
 use Rattle.lq_solving.specs.Unification.{split_last}
 use Rattle.lq_unify.proofs.ApplicationLaws.{other_are, all_drop, if_list, take_rest}

@@ -1,14 +1,13 @@
-use Rattle.std.proofs.Common.{◌≡◌, ◌∙◌, sym, ap, ap₂, length}
+use Rattle.std.proofs.Common.{◌∙◌, sym, ap, ap₂, length}
 use Rattle.std.proofs.Common.{subst as along}
 use Rattle.std.specs.List.{AllByRecursion}
 use Rattle.lq_trees.specs.Change.{instance}
 use Rattle.lq_terms.specs.declared.nodes.Node.{Node}
 use Rattle.lq_terms.specs.Terms.{HasTerm, IsTerm, tree_of, trees_by}
 use Rattle.lq_terms.specs.Changes.{bindings, HasHypothesis}
-use Rattle.lq_evars.specs.Places.{store_of}
 use Rattle.lq_unify.specs.Solutions.{AreClosed}
 use Rattle.lq_unify.proofs.PartLaws.{tree_is, parts_have}
-use Rattle.lq_unify.proofs.ExposeSteps.{other_open, open_kept, context_names, as_many, entries_closed, head_value}
+use Rattle.lq_unify.proofs.ExposeSteps.{open_kept, context_names, as_many, entries_closed, head_value}
 use Rattle.lq_unify.proofs.exposing.head_value.Goals as goal
 
 pub returns-in_default-body-clause-open : goal.returns-in_default-body-clause-open

@@ -1,4 +1,4 @@
-use Rattle.std.proofs.Common.{◌≡◌, sym, map}
+use Rattle.std.proofs.Common.{sym, map}
 use Rattle.std.proofs.Common.{subst as along}
 use Rattle.std.specs.List.{AllByRecursion}
 use Rattle.lq_calculus.specs.Contraction.{apply}

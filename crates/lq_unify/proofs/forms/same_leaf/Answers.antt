@@ -1,4 +1,4 @@
-use Rattle.std.proofs.Common.{◌≡◌, ◌∙◌, sym, refl}
+use Rattle.std.proofs.Common.{◌∙◌, sym, refl}
 use Rattle.lq_terms.specs.declared.nodes.Node.{Node}
 use Rattle.lq_unify.proofs.LeafLaws.{at_leaves, at_other, at_none, no_leaf, not_var, not_sort, not_const, not_ind, not_ctor, not_elim, and_true, and_false, var_leaf, sort_leaf, const_leaf, ind_leaf, ctor_leaf, elim_leaf}
 use Rattle.lq_unify.proofs.forms.same_leaf.Goals as goal

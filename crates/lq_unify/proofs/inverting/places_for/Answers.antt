@@ -1,4 +1,4 @@
-use Rattle.std.proofs.Common.{◌≡◌, ◌≤◌, ◌<◌, ◌-◌, ◌∙◌, rules, ap, sym, arith, length, [], None}
+use Rattle.std.proofs.Common.{◌≡◌, ◌∙◌, rules, ap, sym, arith, [], None}
 use Rattle.std.proofs.Common.{subst as along}
 use Rattle.lq_trees.specs.Tree.{value_of}
 use Rattle.lq_terms.proofs.Growth.{Grows-refl, Grows-trans}

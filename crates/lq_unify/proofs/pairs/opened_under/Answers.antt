@@ -1,4 +1,3 @@
-use Rattle.lq_terms.specs.Terms.{text_of}
 use Rattle.lq_unify.proofs.PairLaws.{under_is}
 use Rattle.lq_unify.proofs.pairs.opened_under.Goals as goal
 

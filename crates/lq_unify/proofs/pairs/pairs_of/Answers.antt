@@ -1,4 +1,4 @@
-use Rattle.std.proofs.Common.{◌≡◌, ◌<◌, ◌≤◌, ◌∙◌, sym, arith, length, map}
+use Rattle.std.proofs.Common.{◌∙◌, sym, arith, map}
 use Rattle.std.proofs.lemmas.List.{length-map}
 use Rattle.lq_terms.specs.Terms.{tree_of}
 use Rattle.lq_unify.proofs.SpineLaws.{arg_has}
