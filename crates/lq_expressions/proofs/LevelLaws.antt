@@ -174,6 +174,16 @@ clause_fails h cs m e ws f = fails_on (right_on h cs) e (read (clause_head h.n m
 pub clause_is : (h : Here) (cs : List tree.Clause) (m : Mode) (d : Head × Mode) (ws vs : Words) → read (clause_head h.n m) ws ≡ Ok (d, vs) → read (one_more (cs, m) (clause h m)) ws ≡ read (right_of h d cs) vs
 clause_is h cs m d ws vs f = gives_on (right_on h cs) (read (clause_head h.n m) ws) d vs (one_goes h cs m ws) f
 
+abbrev right_put : Head × Mode → List tree.Clause → tree.Tac → Words → Read Clauses
+right_put d cs a us = Ok ((cs ++ headed d.0 a ∷ [], d.1), us)
+
+pub right_fails : (h : Here) (d : Head × Mode) (cs : List tree.Clause) (e : Refusal) (ws : Words) → Fails e (read (right_side h) ws) → Fails e (read (right_of h d cs) ws)
+right_fails h d cs e ws f = fails_on (right_put d cs) e (read (right_side h) ws) refl f
+
+pub right_gives : (h : Here) (d : Head × Mode) (cs ds : List tree.Clause) (a : tree.Tac) (ws us : Words) → read (right_side h) ws ≡ Ok (a, us) → ds ≡ cs ++ headed d.0 a ∷ [] →
+    read (right_of h d cs) ws ≡ Ok ((ds, d.1), us)
+right_gives h d cs ds a ws us f e = gives_on (right_put d cs) (read (right_side h) ws) a us refl f ∙ ap (λ xs. Ok ((xs, d.1), us)) (sym e)
+
 -- the first clause, and those behind it
 pub clauses_are : (n : ℕ) (m : Mode) (ws vs us : Words) (b : Bool) (none : List tree.Clause) (first : Clauses) → read (eat n (is_sign Bar)) ws ≡ Ok (b, vs) → none ≡ [] →
     read (one_more (none, m) (clause (free n) m)) vs ≡ Ok (first, us) → read (clauses (free n) m) ws ≡ read (more_clauses n first) us

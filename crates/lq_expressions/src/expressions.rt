@@ -20,7 +20,7 @@ ghost use Rattle.lq_expressions.specs.Views.{a_tac, a_pre, steps_behind, place, 
 ghost use Rattle.lq_expressions.specs.Views.{match_clauses, clauses_found, right_of, more_clauses};
 
 use crate::places::{Places, step_of};
-use crate::trees::{put_clause, sequence};
+use crate::trees::{discard, put_clause, sequence};
 use lq_ast::{Arg, Binding, Clause, Manner, Name, Step, Surface, Tac};
 use lq_grammar::Symbol;
 use lq_parts::{
@@ -820,9 +820,16 @@ fn right_of(
     ensures { Gives (λ m. (map plain_clause found.new, mode_of m))
         (read (right_of (free inside) (head_of head, mode_of next) (map plain_clause found.old)) cursor.old) result cursor.new }
 {
-    let whole = right_side(alloc, cursor, inside)?;
-    put_clause(found, head, whole)?;
-    Ok(next)
+    match right_side(alloc, cursor, inside) {
+        Ok(whole) => {
+            put_clause(found, head, whole)?;
+            Ok(next)
+        }
+        Err(refusal) => {
+            discard(head);
+            Err(refusal)
+        }
+    }
 }
 
 /// `=> a`

@@ -50,3 +50,15 @@ pub fn put_clause(found: &mut Items<Clause>, head: ClauseHead, whole: Tac) -> Re
 {
     push_clause(found, headed(head, whole))
 }
+
+/// Lets go what stands before the `=>` of a clause that is not read.
+pub fn discard(head: ClauseHead) {
+    match head {
+        ClauseHead::Any => {}
+        ClauseHead::Pat(pattern) => drop(pattern),
+        ClauseHead::Sequent(hyps, pattern) => {
+            drop(hyps);
+            drop(pattern);
+        }
+    }
+}

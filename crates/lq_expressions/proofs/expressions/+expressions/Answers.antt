@@ -16,7 +16,7 @@ use Rattle.lq_phrases.specs.Views.{placed_of, here, free, Fails, Gives}
 use Rattle.lq_phrases.proofs.Loops.{many_from, many_step, map_more}
 use Rattle.lq_parts.specs.Views.{mode_of, head_of}
 use Rattle.lq_expressions.specs.Views.{a_tac, places_of}
-use Rattle.lq_expressions.proofs.LevelLaws.{steps_fail, steps_give, place_fails, place_gives, let_fails, let_is, clauses_are, clause_fails, clause_is, match_fails, match_gives}
+use Rattle.lq_expressions.proofs.LevelLaws.{steps_fail, steps_give, place_fails, place_gives, let_fails, let_is, clauses_are, clause_fails, clause_is, right_fails, right_gives, match_fails, match_gives}
 use Rattle.lq_expressions.proofs.expressions.+expressions.Goals as goal
 
 pub more_steps-loop-alloc-smaller : goal.more_steps-loop-alloc-smaller
@@ -127,3 +127,12 @@ match_form-returns-in-Ok t c =
     match_gives (free c.args.inside) c.args.manner (c.in_ok-reversed.reversed, plain c.in_ok-reversed.subject, mode_of c.in_ok-reversed.mode) (map plain_clause c.in-Ok.found, mode_of c.in-Ok.last) _
     c.args.cursor.now c.match_head.new.cursor c.match_clauses.new.cursor c.in_ok-reversed.ensures c.in-Ok.ensures
     (plain_match c.args.manner c.matched_of.result c.in-Ok.found ∙ ap (λ w. match c.args.manner w (clauses_of (map plain_clause c.in-Ok.found))) c.matched_of.ensures)
+
+pub right_of-returns-in-Err : goal.right_of-returns-in-Err
+right_of-returns-in-Err t c =
+    right_fails (free c.args.inside) (head_of c.args.head, mode_of c.args.next) (map plain_clause c.args.found.now) c.in-Err.refusal c.args.cursor.now c.in-Err.ensures
+
+pub right_of-returns-in_ok-put_clause-in-Ok : goal.right_of-returns-in_ok-put_clause-in-Ok
+right_of-returns-in_ok-put_clause-in-Ok t c =
+    right_gives (free c.args.inside) (head_of c.args.head, mode_of c.args.next) (map plain_clause c.args.found.now) (map plain_clause c.put_clause.new.found) (plain_tac c.in-Ok.whole) c.args.cursor.now c.right_side.new.cursor
+    c.in-Ok.ensures c.in_ok-put_clause-in-Ok.ensures
