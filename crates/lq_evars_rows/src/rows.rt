@@ -157,12 +157,7 @@ fn taken_back(bank: &Bank<'_>, store: &mut Store) -> u64
 }
 
 /// What a word asks of two terms.
-fn compared(
-    bank: &mut Bank<'_>,
-    store: &mut Store,
-    word: &str,
-    many: u32,
-) -> Result<u64, RowFault>
+fn compared(bank: &mut Bank<'_>, store: &mut Store, word: &str, many: u32) -> Result<u64, RowFault>
     requires { IsKept bank.old store.old }
 {
     let last = many.saturating_sub(1);

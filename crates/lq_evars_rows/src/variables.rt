@@ -25,7 +25,11 @@ fn make(
 }
 
 /// So many variables, of which the last has a name: its number, found by the name; it has that name and no other variable has one.
-pub(crate) fn named_row(bank: &mut Bank<'_>, store: &mut Store, many: u32) -> Result<u64, RowFault> {
+pub(crate) fn named_row(
+    bank: &mut Bank<'_>,
+    store: &mut Store,
+    many: u32,
+) -> Result<u64, RowFault> {
     let kind = bank.make(Node::Sort(Sort::Base))?;
     let name = bank.name("x")?;
     for _ in 1..many {
@@ -51,9 +55,7 @@ fn same_kinds(store: &Store, many: u32, first: TermId, last: TermId) -> Result<u
     if many < 2 || store.count() != many {
         return Err(RowFault::Malformed);
     }
-    Ok(u64::from(
-        store.kind(0) == first && store.kind(many - 1) == last,
-    ))
+    Ok(u64::from(store.kind(0) == first && store.kind(many - 1) == last))
 }
 
 /// So many variables, of which the first gets another type: whether it has that, and the last has the type that it had.
