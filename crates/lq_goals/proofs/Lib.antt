@@ -3,3 +3,4 @@ pub mod Exchanging
 pub mod Seeing
 pub mod Viewing
 pub mod ViewingGoals
+pub mod RootLaws

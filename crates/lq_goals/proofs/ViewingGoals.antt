@@ -52,7 +52,7 @@ context_readable bank s xs (x ∷ hs) h k = (
 )
 
 module _ (bank : Terms) (s : Places) (h : HasStore bank s) (i : IsStore (store_of bank s)) (k : ℕ) (v : Variable) (e : slice_get s.variables k ≡ Some v) where
-  has_variable : HasVariable bank v
+  pub has_variable : HasVariable bank v
   has_variable = all_at_variable s.variables h.variables k e
     where
       all_at_variable : (vs : List Variable) → AllByRecursion (HasVariable bank) vs → (j : ℕ) → slice_get vs j ≡ Some v → HasVariable bank v
@@ -84,6 +84,15 @@ module _ (bank : Terms) (s : Places) (h : HasStore bank s) (i : IsStore (store_o
   goal_is g q =
       let is : view_of (store_of bank s) (slice_get (store_of bank s).variables k) ≡ view_of (store_of bank s) (Some (variable_of bank v)) = ap (view_of (store_of bank s)) (variable_told bank s k v e) in
       ap (λ o. elim o as (λ z. TreeView) [ Some x ↦ x | None ↦ g ]) (sym q ∙ is)
+
+-- the bank has its context
+pub context_there : (bank : Terms) (s : Places) → HasStore bank s → (k : ℕ) (v : Variable) → slice_get s.variables k ≡ Some v → HasContext bank v.context
+context_there bank s h k v e = at s.variables h.variables k e
+  where
+    at : (vs : List Variable) → AllByRecursion (HasVariable bank) vs → (j : ℕ) → slice_get vs j ≡ Some v → HasContext bank v.context
+    at [] a j q = absurd (grind (arith, q))
+    at (w ∷ vs) a zero q = subst (λ z. HasContext bank z.context) (ap (λ o. elim o as (λ z. Variable) [ Some x ↦ x | None ↦ w ]) q) a.0.context
+    at (w ∷ vs) a (suc j) q = at vs a.1 j q
 
 -- its terms, the type last
 pub goal_unfit : (g : TreeView) → first_unfit (goal_terms g) ≡ or_fault (first_unfit (context_terms g.context)) (size_fault g.kind)

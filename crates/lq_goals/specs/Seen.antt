@@ -2,14 +2,16 @@
 use Rattle.std.specs.Prelude.{◌≡◌, ◌<◌, ℕ, List, [], ◌∷◌, ◌++◌, length, map, Result, Ok, Err, Option, Some, None, option_map, slice_get}
 use Rattle.std.specs.List.{AllByRecursion}
 use Rattle.lq_trees.specs.Tree.{Tree, Hypothesis as TreeHypothesis}
+use Rattle.lq_trees.specs.Tree.Tree.{Evar}
 use Rattle.lq_trees.specs.Index.{Within}
 use Rattle.lq_terms.specs.declared.nodes.Hypothesis.{Hypothesis}
 use Rattle.lq_terms.specs.declared.nodes.TermId.{TermId}
 use Rattle.lq_terms.specs.Terms.{Terms, HasTerm, HasName, text_of, tree_of}
 use Rattle.lq_terms.specs.Contexts.{HasBody, HasAllOf, HasContext, hypothesis_of, context_of}
-use Rattle.lq_solving.specs.Stores.{Store as TreeStore, StoreFault as TreeFault, read, read_hypothesis, read_context, read_too_large, read_too_deep}
+use Rattle.lq_solving.specs.Stores.{Store as TreeStore, StoreFault as TreeFault, read, read_hypothesis, read_context, read_too_large, read_too_deep, own_instance}
 use Rattle.lq_solving.specs.Kept.{IsOver}
 use Rattle.lq_evars.specs.declared.store.StoreFault.{StoreFault}
+use Rattle.lq_evars.specs.declared.store.Variable.{Variable}
 use Rattle.lq_evars.specs.Places.{Places, store_of, HasNameOr}
 use Rattle.lq_states.specs.Views.{GoalView as TreeView, ProofView as TreeProofView, context_terms, goal_terms, all_terms, first_unfit}
 use Rattle.lq_goals.specs.declared.views.GoalView.{GoalView}
@@ -71,6 +73,10 @@ body_terms (Some t) = t ∷ []
 -- the terms of a hypothesis, its body before its type
 abbrev pub hypothesis_terms : TreeHypothesis → List Tree
 hypothesis_terms h = body_terms h.body ++ h.kind ∷ []
+
+-- the term is variable 0 with each hypothesis of its context for itself
+abbrev pub IsRoot : Terms → Places → TermId → Type 0
+IsRoot bank s t = (v : Variable) → slice_get s.variables 0 ≡ Some v → IsTree bank (Evar 0 (own_instance (context_of bank v.context))) t
 
 -- a goal's parts are those of a goal over trees
 pub record IsView (bank : Terms) (g : TreeView) (v : GoalView) : Type 0 where

@@ -1,22 +1,23 @@
-//! Goals and whole proofs as they read.
+//! Goals, whole proofs and the proof's term as they read.
 
-ghost use Rattle.std.specs.Prelude.{◌≡◌, ◌<◌, ◌∷◌, ◌++◌, [], length, option_map, Some, IfOk, OnOk};
+ghost use Rattle.std.specs.Prelude.{◌≡◌, ◌<◌, ◌∷◌, ◌++◌, [], length, map, option_map, Some, IfOk, OnOk};
 ghost use Rattle.std.specs.List.{AllByRecursion};
-ghost use Rattle.lq_terms.specs.Terms.{Grows, tree_of};
-ghost use Rattle.lq_terms.specs.Contexts.{context_of, hypothesis_of};
+ghost use Rattle.lq_terms.specs.Terms.{HasTerm, Grows, tree_of};
+ghost use Rattle.lq_calculus.specs.Declarations.{variables};
+ghost use Rattle.lq_terms.specs.Contexts.{HasAllOf, context_of, hypothesis_of};
 ghost use Rattle.lq_solving.specs.Stores.{read, read_hypothesis, read_context};
 ghost use Rattle.lq_solving.specs.Kept.{IsStore};
 ghost use Rattle.lq_evars.specs.Places.{HasStore, store_of};
 ghost use Rattle.lq_states.specs.Views.{GoalView as TreeView, goal_view, goal_terms, context_terms, all_terms, first_unfit, views};
-ghost use Rattle.lq_states.specs.Views.{fitting_view, proof_view};
+ghost use Rattle.lq_states.specs.Views.{fitting_view, proof_view, fitting_root};
 ghost use Rattle.lq_states.specs.Kept.{IsListed};
 ghost use Rattle.lq_goals.specs.Held.{proof_of};
-ghost use Rattle.lq_goals.specs.Seen.{IsReadableOr, CanRead, ReadsAs, Shows, IsBody, IsHypothesis, AreHypotheses, IsView, AreViews, IsProofView};
+ghost use Rattle.lq_goals.specs.Seen.{IsReadableOr, CanRead, ReadsAs, Shows, IsRoot, IsTree, IsBody, IsHypothesis, AreHypotheses, IsView, AreViews, IsProofView};
 ghost use Rattle.lq_goals.specs.Seen.{body_terms, hypothesis_terms};
 
 use crate::proof::Proof;
 use lq_evars::{Store, StoreFault};
-use lq_terms::{Bank, Context, Hypothesis, NameId, NoMemory, TermId};
+use lq_terms::{Bank, Context, Hypothesis, Instance, NameId, NoMemory, Node, TermId};
 
 /// A goal as it reads.
 #[derive(Drop)]
@@ -148,6 +149,32 @@ fn read_goals(
     Ok(read)
 }
 
+/// Each hypothesis of a context for itself.
+fn own_instance(bank: &mut Bank<'_>, context: &[Hypothesis]) -> Result<Instance, NoMemory>
+    requires { AllByRecursion (HasAllOf bank.old) context.now }
+    ensures has { IfOk result (AllByRecursion (HasTerm bank.new)) }
+    ensures own { IfOk result (λ ts. map (tree_of bank.new) ts ≡ variables (context_of bank.old context.now)) }
+    ensures grows { Grows bank.old bank.new }
+{
+    let mut entries = Instance::new(bank.allocator());
+    for hypothesis in context {
+        let entry = bank.make(Node::Var(hypothesis.name))?;
+        entries.push(entry)?;
+    }
+    Ok(entries)
+}
+
+/// The variable of number 0 with each hypothesis of its context for itself.
+fn root_variable(bank: &mut Bank<'_>, store: &Store) -> Result<TermId, NoMemory>
+    requires store { HasStore bank.old store.now }
+    requires rooted { 0 < length store.now.variables }
+    ensures is { IfOk result (IsRoot bank.new store.now) }
+    ensures grows { Grows bank.old bank.new }
+{
+    let entries = own_instance(bank, store.context(0).hypotheses())?;
+    bank.make(Node::Evar(0, entries))
+}
+
 impl Proof {
     /// A goal of the store as it reads. It is refused as too large or too deep where a term of it as it reads passes a limit: the
     /// first one counts, each hypothesis before the next, its body before its type, the goal's type last.
@@ -175,5 +202,18 @@ impl Proof {
             goals,
             shelved: self.shelf_count() as u32,
         })
+    }
+
+    /// The whole term as it reads: the value of variable 0, or that variable where it has none. It is refused as too large or too
+    /// deep where the term passes that limit.
+    pub fn root(&self, bank: &mut Bank<'_>) -> Result<TermId, StoreFault>
+        requires store { HasStore bank.old self.now.store }
+        requires kept { IsStore (store_of bank.old self.now.store) }
+        requires rooted { 0 < length self.now.store.variables }
+        ensures told { Shows (IsTree bank.new) result (fitting_root (proof_of bank.old self.now)) }
+        ensures grows { Grows bank.old bank.new }
+    {
+        let whole = root_variable(bank, self.store())?;
+        self.store().read(bank, whole)
     }
 }
