@@ -2,7 +2,7 @@
 use Rattle.std.specs.Prelude.{not, slice_get}
 use Rattle.std.proofs.Common.{◌≡◌, ◌≤◌, ◌<◌, ◌+◌, ◌-◌, ◌∙◌, ℕ, zero, suc, refl, sym, ap, ap₂, subst, arith, eqb, eqb-true, eq-eqb, Bool, true, false, List, [], ◌∷◌, ◌++◌, length, take, drop, Option, Some, None}
 use Rattle.lq_trees.specs.Tree.{Tree, Context}
-use Rattle.lq_solving.specs.Stores.{Store, Variable, Assigned, count, find_value, value, has_value, is_open, with_value}
+use Rattle.lq_solving.specs.Stores.{Store, Variable, Assigned, count, find_value, value, has_value, is_open, with_variable, with_value, with_kind}
 use Rattle.lq_solving.proofs.Later.{Later, now, given_later}
 use Rattle.lq_states.specs.Goals.{Frame, Proof, with_lists, with_store, alone, has, without, still_open, open_frames, swept, refocused}
 use Rattle.lq_states.specs.Kept.{times, behind_all, listed_goals, IsListed, MayReplace, IsProof, IsSwept, oldest}
@@ -145,3 +145,12 @@ swept_later p given seen (given_later {s1} l k b may) w =
       inside = v.inside;
       valueless = λ j m. ap (λ as_. find_value as_ j) (oldest_more given (record { id = k; body = b }) s1.values v.values) ∙ v.valueless j m;
     }
+
+-- and where a variable is made, or gets another type
+pub swept_more : (p : Proof) (given seen : ℕ) (v : Variable) → IsSwept p given seen → IsSwept (with_store p (with_variable p.store v)) given seen
+unfolding with_variable listed_goals
+swept_more p given seen v w = record { values = w.values; inside = w.inside; valueless = w.valueless }
+
+pub swept_kind : (p : Proof) (given seen k : ℕ) (A : Tree) → IsSwept p given seen → IsSwept (with_store p (with_kind p.store k A)) given seen
+unfolding with_kind listed_goals
+swept_kind p given seen k A w = record { values = w.values; inside = w.inside; valueless = w.valueless }
