@@ -96,7 +96,7 @@ impl Store {
         })
     }
 
-    /// The same store. It takes time in proportion to what the store holds.
+    /// The same store.
     pub fn copy(&self, alloc: Global) -> Result<Store, NoMemory>
         ensures { IfOk result (λ s. s ≡ self.now) }
     {

@@ -119,7 +119,7 @@ impl Proof {
         })
     }
 
-    /// The same proof. It takes time in proportion to what the proof holds.
+    /// The same proof.
     pub fn copy(&self, alloc: Global) -> Result<Proof, NoMemory>
         ensures { IfOk result (λ p. p ≡ self.now) }
     {

@@ -57,7 +57,7 @@ fn sentence_of(alloc: Global, text: &[u8], tokens: &[Token]) -> Result<Sentence,
 /// The syntax tree of a sentence, of which `tokens` are the tokens that `cut` gave on this text.
 ///
 /// The tree is the one that the grammar has for these tokens (Rocq reference manual: "Ltac", "Proof mode", "Inductive types").
-/// Places count in bytes from the start of the text. Brackets have no node. The time is linear in the tokens.
+/// Places count in bytes from the start of the text. Brackets have no node.
 ///
 /// # Errors
 ///
