@@ -17,14 +17,16 @@ use Rattle.lq_terms.specs.Terms.{Terms}
 use Rattle.lq_calculus.specs.Contraction.{head_form, contract}
 use Rattle.lq_calculus.specs.Declarations.{Env as Environment, all_proofs}
 use Rattle.lq_calculus.specs.Typing.{product_sort, is_product, is_above, first_big}
-use Rattle.lq_calculus.specs.Checking.{Kernel, fitting, as_sort, needed_form, infer, sort_of, domain_sorts}
+use Rattle.lq_calculus.specs.Checking.{Kernel, fitting, as_sort, needed_form, sort_of, domain_sorts}
+use Rattle.lq_inference.specs.Inference.{Open, closed, infer_by}
 use Rattle.lq_calculus.proofs.ConvSound.{done_gives}
 use Rattle.lq_calculus.proofs.DeclareSound.{gives_answer}
 use Rattle.lq_kernel.specs.declared.faults.KernelFault.{KernelFault}
 use Rattle.lq_kernel.specs.Answers.{Refuses}
 use Rattle.lq_kernel.specs.Closed.{IsScoped}
-use Rattle.lq_kernel.specs.Steps.{Sorts, IsSplit, inside_of}
+use Rattle.lq_kernel.specs.Steps.{Sorts, IsSplit, sort_by, inside_of}
 use Rattle.lq_kernel.proofs.Goes.{goes_then, goes_tick}
+use Rattle.lq_kernel.proofs.ClosedLaws.{sorts_are}
 use Rattle.lq_kernel.proofs.Cycle.{sorts_stop, infer_tick, ticked, out_of_ticks, prod_domain_stops, prod_rest_stops, prod_comes}
 
 -- a sort is its own weak head form, at no tick
@@ -33,27 +35,51 @@ unfolding needed_form head_form contract fitting as_sort ◌>>=◌
 sort_form E zero g s = refl
 sort_form E (suc n) g s = refl
 
--- the sort of a product whose own tick is paid
-module _ (E : Environment) (G : Context) (x : Name) (A B : Tree) (bank : Terms) (b c left : ℕ) (tick_paid : b ≡ c + 1) where
-  pub row_domain_stops : (r : Result Universe KernelFault) (e : KernelFault) → IsErrAnd r (λ y. y ≡ e) → Refuses bank e (λ n. sort_of E n G A) c left → Sorts bank r (λ n. sort_of E n G (Prod x A B)) b left
-  row_domain_stops r e i h = sorts_stop E G (Prod x A B) bank b left r e i (ticked E G (Prod x A B) bank (Err e) b c left tick_paid (prod_domain_stops E G x A B bank c left (Err e) e refl h))
+-- the sort of a product whose own tick is paid, by inference that is given the types of variables
+module _ (o : Open) (E : Environment) (G : Context) (x : Name) (A B : Tree) (bank : Terms) (b c left : ℕ) (tick_paid : b ≡ c + 1) where
+  by_domain_stops : (r : Result Universe KernelFault) (e : KernelFault) → IsErrAnd r (λ y. y ≡ e) → Refuses bank e (λ n. sort_by o E n G A) c left → Sorts bank r (λ n. sort_by o E n G (Prod x A B)) b left
+  by_domain_stops r e i h = sorts_stop o E G (Prod x A B) bank b left r e i (ticked o E G (Prod x A B) bank (Err e) b c left tick_paid (prod_domain_stops o E G x A B bank c left (Err e) e refl h))
 
-  pub row_rest_stops : (s : Universe) (d : ℕ) (r : Result Universe KernelFault) (e : KernelFault) → IsErrAnd r (λ y. y ≡ e) → ComesTo (λ n. sort_of E n G A) c (done s d)
-      → Refuses bank e (λ n. sort_of E n (G ++ (record { name = fresh G x; body = None; kind = A } ∷ [])) (opened (fresh G x) B)) d left → Sorts bank r (λ n. sort_of E n G (Prod x A B)) b left
-  row_rest_stops s d r e i h k = sorts_stop E G (Prod x A B) bank b left r e i (ticked E G (Prod x A B) bank (Err e) b c left tick_paid (prod_rest_stops E G x A B bank c left s d (Err e) e refl h k))
+  by_rest_stops : (s : Universe) (d : ℕ) (r : Result Universe KernelFault) (e : KernelFault) → IsErrAnd r (λ y. y ≡ e) → ComesTo (λ n. sort_by o E n G A) c (done s d)
+      → Refuses bank e (λ n. sort_by o E n (G ++ (record { name = fresh G x; body = None; kind = A } ∷ [])) (opened (fresh G x) B)) d left → Sorts bank r (λ n. sort_by o E n G (Prod x A B)) b left
+  by_rest_stops s d r e i h k = sorts_stop o E G (Prod x A B) bank b left r e i (ticked o E G (Prod x A B) bank (Err e) b c left tick_paid (prod_rest_stops o E G x A B bank c left s d (Err e) e refl h k))
 
-  pub row_ends : (s1 s2 s : Universe) (d : ℕ) → ComesTo (λ n. sort_of E n G A) c (done s1 d) → ComesTo (λ n. sort_of E n (G ++ (record { name = fresh G x; body = None; kind = A } ∷ [])) (opened (fresh G x) B)) d (done s2 left)
-      → s ≡ product_sort s1 s2 → ComesTo (λ n. sort_of E n G (Prod x A B)) b (done s left)
-  unfolding sort_of
-  row_ends s1 s2 s d h k e =
-      subst (λ z. ComesTo (λ n. sort_of E n G (Prod x A B)) b (done z left)) (sym e)
-      (goes_then (λ n. infer E n G (Prod x A B)) (λ K n. needed_form E n G K >>= as_sort) b (Sort (product_sort s1 s2)) left
-      (goes_tick (λ n. infer E n G (Prod x A B)) (inside_of E G (Prod x A B)) b c (infer_tick E G (Prod x A B)) tick_paid _ (prod_comes E G x A B bank c left s1 s2 d h k)) _
+  by_ends : (s1 s2 s : Universe) (d : ℕ) → ComesTo (λ n. sort_by o E n G A) c (done s1 d) → ComesTo (λ n. sort_by o E n (G ++ (record { name = fresh G x; body = None; kind = A } ∷ [])) (opened (fresh G x) B)) d (done s2 left)
+      → s ≡ product_sort s1 s2 → ComesTo (λ n. sort_by o E n G (Prod x A B)) b (done s left)
+  unfolding sort_by
+  by_ends s1 s2 s d h k e =
+      subst (λ z. ComesTo (λ n. sort_by o E n G (Prod x A B)) b (done z left)) (sym e)
+      (goes_then (λ n. infer_by o E n G (Prod x A B)) (λ K n. needed_form E n G K >>= as_sort) b (Sort (product_sort s1 s2)) left
+      (goes_tick (λ n. infer_by o E n G (Prod x A B)) (inside_of o E G (Prod x A B)) b c (infer_tick o E G (Prod x A B)) tick_paid _ (prod_comes o E G x A B bank c left s1 s2 d h k)) _
       (comes_gives (λ n. needed_form E n G (Sort (product_sort s1 s2)) >>= as_sort) (product_sort s1 s2) left (λ n. sort_form E n G (product_sort s1 s2))))
 
 -- no tick is left for a product
+by_out : (o : Open) (E : Environment) (G : Context) (T : Tree) (bank : Terms) (b left : ℕ) → b ≡ 0 → left ≡ 0 → Refuses bank KernelFault.StepsOut (λ n. sort_by o E n G T) b left
+by_out o E G T bank b left e f = sorts_stop o E G T bank b left (Err KernelFault.StepsOut) KernelFault.StepsOut refl (out_of_ticks o E G T b left e f)
+
+-- the same of the kernel's
+module _ (E : Environment) (G : Context) (x : Name) (A B : Tree) (bank : Terms) (b c left : ℕ) (tick_paid : b ≡ c + 1) where
+  pub row_domain_stops : (r : Result Universe KernelFault) (e : KernelFault) → IsErrAnd r (λ y. y ≡ e) → Refuses bank e (λ n. sort_of E n G A) c left → Sorts bank r (λ n. sort_of E n G (Prod x A B)) b left
+  row_domain_stops =
+      subst (λ (S : ℕ → Context → Tree → Kernel Universe). (r : Result Universe KernelFault) (e : KernelFault) → IsErrAnd r (λ y. y ≡ e) → Refuses bank e (λ n. S n G A) c left → Sorts bank r (λ n. S n G (Prod x A B)) b left) (sorts_are E)
+      (by_domain_stops closed E G x A B bank b c left tick_paid)
+
+  pub row_rest_stops : (s : Universe) (d : ℕ) (r : Result Universe KernelFault) (e : KernelFault) → IsErrAnd r (λ y. y ≡ e) → ComesTo (λ n. sort_of E n G A) c (done s d)
+      → Refuses bank e (λ n. sort_of E n (G ++ (record { name = fresh G x; body = None; kind = A } ∷ [])) (opened (fresh G x) B)) d left → Sorts bank r (λ n. sort_of E n G (Prod x A B)) b left
+  row_rest_stops =
+      subst (λ (S : ℕ → Context → Tree → Kernel Universe). (s : Universe) (d : ℕ) (r : Result Universe KernelFault) (e : KernelFault) → IsErrAnd r (λ y. y ≡ e) → ComesTo (λ n. S n G A) c (done s d)
+      → Refuses bank e (λ n. S n (G ++ (record { name = fresh G x; body = None; kind = A } ∷ [])) (opened (fresh G x) B)) d left → Sorts bank r (λ n. S n G (Prod x A B)) b left) (sorts_are E)
+      (by_rest_stops closed E G x A B bank b c left tick_paid)
+
+  pub row_ends : (s1 s2 s : Universe) (d : ℕ) → ComesTo (λ n. sort_of E n G A) c (done s1 d) → ComesTo (λ n. sort_of E n (G ++ (record { name = fresh G x; body = None; kind = A } ∷ [])) (opened (fresh G x) B)) d (done s2 left)
+      → s ≡ product_sort s1 s2 → ComesTo (λ n. sort_of E n G (Prod x A B)) b (done s left)
+  row_ends =
+      subst (λ (S : ℕ → Context → Tree → Kernel Universe). (s1 s2 s : Universe) (d : ℕ) → ComesTo (λ n. S n G A) c (done s1 d) → ComesTo (λ n. S n (G ++ (record { name = fresh G x; body = None; kind = A } ∷ [])) (opened (fresh G x) B)) d (done s2 left)
+      → s ≡ product_sort s1 s2 → ComesTo (λ n. S n G (Prod x A B)) b (done s left)) (sorts_are E)
+      (by_ends closed E G x A B bank b c left tick_paid)
+
 pub row_out : (E : Environment) (G : Context) (T : Tree) (bank : Terms) (b left : ℕ) → b ≡ 0 → left ≡ 0 → Refuses bank KernelFault.StepsOut (λ n. sort_of E n G T) b left
-row_out E G T bank b left e f = sorts_stop E G T bank b left (Err KernelFault.StepsOut) KernelFault.StepsOut refl (out_of_ticks E G T b left e f)
+row_out E G T bank b left e f = subst (λ (S : ℕ → Context → Tree → Kernel Universe). Refuses bank KernelFault.StepsOut (λ n. S n G T) b left) (sorts_are E) (by_out closed E G T bank b left e f)
 
 -- the sorts of the domains
 pub falls : {A : Type 0} (f : ℕ → Kernel A) (b : ℕ) (a : A) (left : ℕ) → ComesTo f b (done a left) → left ≤ b

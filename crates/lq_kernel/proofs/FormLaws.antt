@@ -17,12 +17,13 @@ use Rattle.lq_terms.specs.Changes.{Answers as Changed}
 use Rattle.lq_calculus.specs.Contraction.{whnf}
 use Rattle.lq_calculus.specs.Declarations.{Env as Environment, rules_of}
 use Rattle.lq_calculus.specs.Checking.{KernelFault as Fault, Kernel, not_a_sort, not_a_product, mismatch, type_too_large, type_too_deep, fitting, as_sort, as_product, needed_form, matching, conv}
+use Rattle.lq_inference.specs.Inference.{Open, matching_by}
 use Rattle.lq_reduce.specs.declared.faults.ReduceFault.{ReduceFault}
 use Rattle.lq_reduce.specs.Answers.{Reduces, Compares}
 use Rattle.lq_kernel.specs.declared.faults.KernelFault.{KernelFault}
 use Rattle.lq_kernel.specs.Answers.{Refuses}
 use Rattle.lq_kernel.specs.Steps.{Types, Sorts, Products, Fitted, IsSortOr, IsProductOr, reduce_fault, limit_fault}
-use Rattle.lq_kernel.proofs.Goes.{Goes, goes_then, refuses_first, err_out}
+use Rattle.lq_kernel.proofs.Goes.{Goes, goes_then, refuses_goes, refuses_first, err_out}
 use Rattle.lq_kernel.proofs.Trees.{fit-close}
 
 -- a type within the limits, and one beyond them
@@ -123,6 +124,27 @@ mismatched E G T U old new b left found wanted same g hf hw t u e h =
       subst (λ z. ComesTo (λ n. matching E n G T U) b (failed (mismatch z (tree_of new wanted)) left)) (sym t1)
           (subst (λ z. ComesTo (λ n. matching E n G T U) b (failed (mismatch T z) left)) (sym u1) (matching_no E G T U new b left same e h)),
     )
+
+-- a found type against one that was written
+module _ (o : Open) (E : Environment) (G : Context) (T U : Tree) (bank : Terms) (b left : ℕ) where
+  pub written_out : (e : KernelFault) → Refuses bank e (λ n. conv (rules_of E) G n T U) b left → Refuses bank e (λ n. matching_by o E n G T U) b left
+  unfolding matching_by
+  written_out e h = refuses_first bank e (λ n. conv (rules_of E) G n T U) (λ same n. elim same [ true ↦ gives (tt {0}) | false ↦ o.differ T U ]) b left h
+
+  pub written_yes : (same : Bool) → same ≡ true → ComesTo {F = Fault} (λ n. conv (rules_of E) G n T U) b (done same left) → ComesTo (λ n. matching_by o E n G T U) b (done (tt {0}) left)
+  unfolding matching_by
+  written_yes true e h =
+      goes_then (λ n. conv (rules_of E) G n T U) (λ same n. elim same [ true ↦ gives (tt {0}) | false ↦ o.differ T U ]) b true left h _ (comes_gives (λ n. gives (tt {0})) (tt {0}) left (λ n. refl))
+  written_yes false e h = absurd cc
+
+  pub written_no : (m : Open) (V W : Tree) (k : KernelFault) (same : Bool) → same ≡ false → m ≡ o → V ≡ T → W ≡ U → ComesTo {F = Fault} (λ n. conv (rules_of E) G n T U) b (done same left) → Refuses bank k (λ n. m.differ V W) left left
+      → Refuses bank k (λ n. matching_by o E n G T U) b left
+  unfolding matching_by
+  written_no m V W k false e same v w h r =
+      refuses_goes bank k (λ n. matching_by o E n G T U) b (λ n. o.differ T U) left left
+      (goes_then (λ n. conv (rules_of E) G n T U) (λ same n. elim same [ true ↦ gives (tt {0}) | false ↦ o.differ T U ]) b false left h)
+      (subst (λ (z : Open). Refuses bank k (λ n. z.differ T U) left left) same (subst (λ y. Refuses bank k (λ n. m.differ T y) left left) w (subst (λ x. Refuses bank k (λ n. m.differ x W) left left) v r)))
+  written_no m V W k true e same v w h r = absurd cc
 
 -- a form that must be a sort, or a product
 pub as_sort_not : (t : Tree) → ((s : Universe) → ¬ (t ≡ Sort s)) → as_sort t ≡ fails (not_a_sort t)

@@ -116,7 +116,8 @@ variable_is old named g hs binder y body kind hb hk named_as G x o A eg ex eo ea
 }
 
 -- all that the work under a binder is given, and what it stands for
-pub record Ready (bank : Terms) (ds : List (NameId × Declared)) (hs : List Hypothesis) (v : Hypothesis) (r : TermId) (E : Environment) (G : Context) (H : TreeHypothesis) (B : Tree) : Type 0 where
+pub record Ready (old bank : Terms) (ds : List (NameId × Declared)) (hs : List Hypothesis) (v : Hypothesis) (r : TermId) (E : Environment) (G : Context) (H : TreeHypothesis) (B : Tree) : Type 0 where
+  pub grows : Grows old bank
   pub env : IsEnv bank ds
   pub context : IsContext bank hs
   pub variable : IsHypothesis bank v
@@ -130,12 +131,13 @@ pub ready :
     (old mid new : Terms) (g : Grows old mid) (h : Grows mid new) (ds : List (NameId × Declared)) (hs ks : List Hypothesis) (v : Hypothesis) (binder : NameId) (body : Option TermId) (kind r : TermId) (E : Environment) (G : Context) → ks ≡ hs
     → IsEnv old ds → env_of old ds ≡ E → IsContext old hs → context_of old hs ≡ G → HasName old binder → IsBody old body → HasTerm old kind → IsScoped old 1 r
     → ((H : Context) (x : Name) (o : Option Tree) (A : Tree) → context_of mid ks ≡ H → text_of mid binder ≡ x → option_map (tree_of mid) body ≡ o → tree_of mid kind ≡ A → IsVariable new v (record { name = fresh H x; body = o; kind = A }))
-    → Ready new ds ks v r E G (record { name = fresh G (text_of old binder); body = option_map (tree_of old) body; kind = tree_of old kind }) (tree_of old r)
+    → Ready old new ds ks v r E G (record { name = fresh G (text_of old binder); body = option_map (tree_of old) body; kind = tree_of old kind }) (tree_of old r)
 ready old mid new g h ds hs ks v binder body kind r E G same he ee hc ec hx hb hk hr told =
     let whole : Grows old new = Grows-trans old mid new g h in
     let variable : IsVariable new v (record { name = fresh G (text_of old binder); body = option_map (tree_of old) body; kind = tree_of old kind }) =
     told G (text_of old binder) (option_map (tree_of old) body) (tree_of old kind) (context_kept old mid g hs ks G same hc ec) (g.text binder hx) (body_at old mid g body _ hb refl) (g.tree kind hk) in
     record {
+      grows = whole;
       env = IsEnv-grown old new whole ds he;
       context = IsContext-kept old new whole hs ks same hc;
       variable = variable.scoped;

@@ -16,7 +16,8 @@ use Rattle.lq_terms.specs.Terms.{Terms, HasName, HasTerm, IsTerm, text_of, tree_
 use Rattle.lq_terms.specs.Contexts.{hypothesis_of}
 use Rattle.lq_calculus.specs.Contraction.{hypothesis}
 use Rattle.lq_calculus.specs.Declarations.{Env as Environment, Family as TreeFamily, Entry as TreeEntry, lookup, family, family_type, constructor_type, constructor_kind, elim_type, permits, elim_forbidden}
-use Rattle.lq_calculus.specs.Checking.{Kernel, unbound, no_sort_above, env_fault, fitting, sort_above, constant_kind, family_kind, ctor_kind, elim_kind, infer}
+use Rattle.lq_calculus.specs.Checking.{Kernel, unbound, no_sort_above, env_fault, fitting, sort_above, constant_kind, family_kind, ctor_kind, elim_kind}
+use Rattle.lq_inference.specs.Inference.{Open, infer_by}
 use Rattle.lq_env.specs.declared.family.Family.{Family}
 use Rattle.lq_env.specs.declared.family.EnvFault.{EnvFault}
 use Rattle.lq_env.specs.declared.environment.Entry.{Entry}
@@ -70,130 +71,130 @@ module _ (bank : Terms) (f : Family) where
   unfolding kind_by
   kind_some k p e = kind_number k (Some p) e
 
-module _ (E : Environment) (G : Context) (x : Name) (b : ℕ) where
+module _ (o : Open) (E : Environment) (G : Context) (x : Name) (b : ℕ) where
   -- a hypothesis
-  pub var_known : (bank : Terms) (h : Hypothesis) (r : Result TermId KernelFault) → Some (hypothesis_of bank h) ≡ hypothesis G x → IsHypothesis bank h → Fitted bank r (tree_of bank h.kind) → Types bank r (inside_of E G (Var x)) b b
-  unfolding inside_of behind infer
+  pub var_known : (bank : Terms) (h : Hypothesis) (r : Result TermId KernelFault) → Some (hypothesis_of bank h) ≡ hypothesis G x → IsHypothesis bank h → Fitted bank r (tree_of bank h.kind) → Types bank r (inside_of o E G (Var x)) b b
+  unfolding inside_of behind infer_by
   var_known bank h r e p fits =
-      types_goes bank r (inside_of E G (Var x)) b (λ n. fitting (tree_of bank h.kind)) b b
-      (goes_same (inside_of E G (Var x)) (λ n. fitting (tree_of bank h.kind)) b (λ n. ap (λ o. elim o [ Some k ↦ fitting k.kind | None ↦ fails (unbound x) ]) (sym e)))
+      types_goes bank r (inside_of o E G (Var x)) b (λ n. fitting (tree_of bank h.kind)) b b
+      (goes_same (inside_of o E G (Var x)) (λ n. fitting (tree_of bank h.kind)) b (λ n. ap (λ o. elim o [ Some k ↦ fitting k.kind | None ↦ fails (unbound x) ]) (sym e)))
       (fitted_types bank r (tree_of bank h.kind) b p.kind.within fits)
 
-  pub var_strange : None ≡ hypothesis G x → ComesTo (inside_of E G (Var x)) b (failed (unbound x) b)
-  unfolding inside_of behind infer
-  var_strange e = comes_fails (inside_of E G (Var x)) (unbound x) b (λ n. ap (λ o. elim o [ Some k ↦ fitting k.kind | None ↦ fails (unbound x) ]) (sym e))
+  pub var_strange : None ≡ hypothesis G x → ComesTo (inside_of o E G (Var x)) b (failed (unbound x) b)
+  unfolding inside_of behind infer_by
+  var_strange e = comes_fails (inside_of o E G (Var x)) (unbound x) b (λ n. ap (λ o. elim o [ Some k ↦ fitting k.kind | None ↦ fails (unbound x) ]) (sym e))
 
   -- a constant
-  pub const_none : lookup E x ≡ None → ComesTo (inside_of E G (Const x)) b (failed (unbound x) b)
-  unfolding inside_of behind infer constant_kind
-  const_none e = comes_fails (inside_of E G (Const x)) (unbound x) b (λ n. ap (constant_kind x) e)
+  pub const_none : lookup E x ≡ None → ComesTo (inside_of o E G (Const x)) b (failed (unbound x) b)
+  unfolding inside_of behind infer_by constant_kind
+  const_none e = comes_fails (inside_of o E G (Const x)) (unbound x) b (λ n. ap (constant_kind x) e)
 
-  pub const_other : (bank : Terms) (entry : Entry) → Looks bank (Some entry) (lookup E x) → ((kind body : TermId) (opaque : Bool) → ¬ (entry ≡ Entry.Constant kind body opaque)) → ComesTo (inside_of E G (Const x)) b (failed (unbound x) b)
-  unfolding inside_of behind infer constant_kind
+  pub const_other : (bank : Terms) (entry : Entry) → Looks bank (Some entry) (lookup E x) → ((kind body : TermId) (opaque : Bool) → ¬ (entry ≡ Entry.Constant kind body opaque)) → ComesTo (inside_of o E G (Const x)) b (failed (unbound x) b)
+  unfolding inside_of behind infer_by constant_kind
   const_other bank (Entry.Constant kind body opaque) h l = absurd (l kind body opaque refl)
-  const_other bank (Entry.Family f ss) h l = comes_fails (inside_of E G (Const x)) (unbound x) b (λ n. ap (constant_kind x) h.1)
-  const_other bank (Entry.Arity kind) h l = comes_fails (inside_of E G (Const x)) (unbound x) b (λ n. ap (constant_kind x) h.1)
-  const_other bank (Entry.Constructor f k) h l = comes_fails (inside_of E G (Const x)) (unbound x) b (λ n. ap (constant_kind x) h.1)
-  const_other bank (Entry.Eliminator f s) h l = comes_fails (inside_of E G (Const x)) (unbound x) b (λ n. ap (constant_kind x) h.1)
+  const_other bank (Entry.Family f ss) h l = comes_fails (inside_of o E G (Const x)) (unbound x) b (λ n. ap (constant_kind x) h.1)
+  const_other bank (Entry.Arity kind) h l = comes_fails (inside_of o E G (Const x)) (unbound x) b (λ n. ap (constant_kind x) h.1)
+  const_other bank (Entry.Constructor f k) h l = comes_fails (inside_of o E G (Const x)) (unbound x) b (λ n. ap (constant_kind x) h.1)
+  const_other bank (Entry.Eliminator f s) h l = comes_fails (inside_of o E G (Const x)) (unbound x) b (λ n. ap (constant_kind x) h.1)
 
-  const_is : (bank : Terms) (kind body : TermId) (opaque : Bool) (r : Result TermId KernelFault) → Looks bank (Some (Entry.Constant kind body opaque)) (lookup E x) → Fitted bank r (tree_of bank kind) → Types bank r (inside_of E G (Const x)) b b
-  unfolding inside_of behind infer constant_kind
+  const_is : (bank : Terms) (kind body : TermId) (opaque : Bool) (r : Result TermId KernelFault) → Looks bank (Some (Entry.Constant kind body opaque)) (lookup E x) → Fitted bank r (tree_of bank kind) → Types bank r (inside_of o E G (Const x)) b b
+  unfolding inside_of behind infer_by constant_kind
   const_is bank kind body opaque r h fits =
-      types_goes bank r (inside_of E G (Const x)) b (λ n. fitting (tree_of bank kind)) b b
-      (goes_same (inside_of E G (Const x)) (λ n. fitting (tree_of bank kind)) b (λ n. ap (constant_kind x) h.1))
+      types_goes bank r (inside_of o E G (Const x)) b (λ n. fitting (tree_of bank kind)) b b
+      (goes_same (inside_of o E G (Const x)) (λ n. fitting (tree_of bank kind)) b (λ n. ap (constant_kind x) h.1))
       (fitted_types bank r (tree_of bank kind) b h.0.0.within fits)
 
   pub const_found : (bank : Terms) (entry : Entry) (kind body : TermId) (opaque : Bool) (r : Result TermId KernelFault) → entry ≡ Entry.Constant kind body opaque → Looks bank (Some entry) (lookup E x) → Fitted bank r (tree_of bank kind)
-      → Types bank r (inside_of E G (Const x)) b b
+      → Types bank r (inside_of o E G (Const x)) b b
   const_found bank entry kind body opaque r e h fits = const_is bank kind body opaque r (subst (λ z. Looks bank (Some z) (lookup E x)) e h) fits
 
   -- a family
-  pub ind_none : lookup E x ≡ None → ComesTo (inside_of E G (Ind x)) b (failed (unbound x) b)
-  unfolding inside_of behind infer family_kind
-  ind_none e = comes_fails (inside_of E G (Ind x)) (unbound x) b (λ n. ap (family_kind x) e)
+  pub ind_none : lookup E x ≡ None → ComesTo (inside_of o E G (Ind x)) b (failed (unbound x) b)
+  unfolding inside_of behind infer_by family_kind
+  ind_none e = comes_fails (inside_of o E G (Ind x)) (unbound x) b (λ n. ap (family_kind x) e)
 
   -- what is kept of a name whose type is known
   abbrev pub Kept : Terms → Result TermId KernelFault → Type 0
   Kept bank r = (tree : Tree) (c : ℕ) → kind_of E x ≡ Some tree → Within 0 tree → Types bank r (λ n. fitting tree) c c
 
-  ind_by : (bank : Terms) (r : Result TermId KernelFault) (tree : Tree) → kind_of E x ≡ Some tree → ((n : ℕ) → inside_of E G (Ind x) n ≡ fitting tree) → Within 0 tree → Kept bank r → Types bank r (inside_of E G (Ind x)) b b
-  ind_by bank r tree e f w h = types_goes bank r (inside_of E G (Ind x)) b (λ n. fitting tree) b b (goes_same (inside_of E G (Ind x)) (λ n. fitting tree) b f) (h tree b e w)
+  ind_by : (bank : Terms) (r : Result TermId KernelFault) (tree : Tree) → kind_of E x ≡ Some tree → ((n : ℕ) → inside_of o E G (Ind x) n ≡ fitting tree) → Within 0 tree → Kept bank r → Types bank r (inside_of o E G (Ind x)) b b
+  ind_by bank r tree e f w h = types_goes bank r (inside_of o E G (Ind x)) b (λ n. fitting tree) b b (goes_same (inside_of o E G (Ind x)) (λ n. fitting tree) b f) (h tree b e w)
 
-  pub ind_other : (bank : Terms) (entry : Entry) → Looks bank (Some entry) (lookup E x) → ((f : Family) (ss : List Universe) → ¬ (entry ≡ Entry.Family f ss)) → ((kind : TermId) → ¬ (entry ≡ Entry.Arity kind)) → ComesTo (inside_of E G (Ind x)) b (failed (unbound x) b)
-  unfolding inside_of behind infer family_kind
-  ind_other bank (Entry.Constant kind body opaque) h l m = comes_fails (inside_of E G (Ind x)) (unbound x) b (λ n. ap (family_kind x) h.1)
+  pub ind_other : (bank : Terms) (entry : Entry) → Looks bank (Some entry) (lookup E x) → ((f : Family) (ss : List Universe) → ¬ (entry ≡ Entry.Family f ss)) → ((kind : TermId) → ¬ (entry ≡ Entry.Arity kind)) → ComesTo (inside_of o E G (Ind x)) b (failed (unbound x) b)
+  unfolding inside_of behind infer_by family_kind
+  ind_other bank (Entry.Constant kind body opaque) h l m = comes_fails (inside_of o E G (Ind x)) (unbound x) b (λ n. ap (family_kind x) h.1)
   ind_other bank (Entry.Family f ss) h l m = absurd (l f ss refl)
   ind_other bank (Entry.Arity kind) h l m = absurd (m kind refl)
-  ind_other bank (Entry.Constructor f k) h l m = comes_fails (inside_of E G (Ind x)) (unbound x) b (λ n. ap (family_kind x) h.1)
-  ind_other bank (Entry.Eliminator f s) h l m = comes_fails (inside_of E G (Ind x)) (unbound x) b (λ n. ap (family_kind x) h.1)
+  ind_other bank (Entry.Constructor f k) h l m = comes_fails (inside_of o E G (Ind x)) (unbound x) b (λ n. ap (family_kind x) h.1)
+  ind_other bank (Entry.Eliminator f s) h l m = comes_fails (inside_of o E G (Ind x)) (unbound x) b (λ n. ap (family_kind x) h.1)
 
-  ind_family : (bank : Terms) (f : Family) (ss : List Universe) (r : Result TermId KernelFault) → Looks bank (Some (Entry.Family f ss)) (lookup E x) → Kept bank r → Types bank r (inside_of E G (Ind x)) b b
-  unfolding inside_of behind infer family_kind
+  ind_family : (bank : Terms) (f : Family) (ss : List Universe) (r : Result TermId KernelFault) → Looks bank (Some (Entry.Family f ss)) (lookup E x) → Kept bank r → Types bank r (inside_of o E G (Ind x)) b b
+  unfolding inside_of behind infer_by family_kind
   ind_family bank f ss r h kept = ind_by bank r (family_type (family_of bank f)) (ap (kind_in E) h.1) (λ n. ap (family_kind x) h.1) (within-family_type (family_of bank f) h.0.0.written) kept
 
-  ind_arity : (bank : Terms) (kind : TermId) (r : Result TermId KernelFault) → Looks bank (Some (Entry.Arity kind)) (lookup E x) → Kept bank r → Types bank r (inside_of E G (Ind x)) b b
-  unfolding inside_of behind infer family_kind
+  ind_arity : (bank : Terms) (kind : TermId) (r : Result TermId KernelFault) → Looks bank (Some (Entry.Arity kind)) (lookup E x) → Kept bank r → Types bank r (inside_of o E G (Ind x)) b b
+  unfolding inside_of behind infer_by family_kind
   ind_arity bank kind r h kept = ind_by bank r (tree_of bank kind) (ap (kind_in E) h.1) (λ n. ap (family_kind x) h.1) h.0.within kept
 
-  pub ind_found : (bank : Terms) (entry : Entry) (f : Family) (ss : List Universe) (r : Result TermId KernelFault) → entry ≡ Entry.Family f ss → Looks bank (Some entry) (lookup E x) → Kept bank r → Types bank r (inside_of E G (Ind x)) b b
+  pub ind_found : (bank : Terms) (entry : Entry) (f : Family) (ss : List Universe) (r : Result TermId KernelFault) → entry ≡ Entry.Family f ss → Looks bank (Some entry) (lookup E x) → Kept bank r → Types bank r (inside_of o E G (Ind x)) b b
   ind_found bank entry f ss r e h kept = ind_family bank f ss r (subst (λ z. Looks bank (Some z) (lookup E x)) e h) kept
 
-  pub ind_open : (bank : Terms) (entry : Entry) (kind : TermId) (r : Result TermId KernelFault) → entry ≡ Entry.Arity kind → Looks bank (Some entry) (lookup E x) → Kept bank r → Types bank r (inside_of E G (Ind x)) b b
+  pub ind_open : (bank : Terms) (entry : Entry) (kind : TermId) (r : Result TermId KernelFault) → entry ≡ Entry.Arity kind → Looks bank (Some entry) (lookup E x) → Kept bank r → Types bank r (inside_of o E G (Ind x)) b b
   ind_open bank entry kind r e h kept = ind_arity bank kind r (subst (λ z. Looks bank (Some z) (lookup E x)) e h) kept
 
   pub ind_kept : (bank : Terms) (entry : Entry) (r : Result TermId KernelFault) → ((f : Family) × (ss : List Universe) × (entry ≡ Entry.Family f ss)) ⊎ ((kind : TermId) × (entry ≡ Entry.Arity kind)) → Looks bank (Some entry) (lookup E x) → Kept bank r
-      → Types bank r (inside_of E G (Ind x)) b b
+      → Types bank r (inside_of o E G (Ind x)) b b
   ind_kept bank entry r (inl p) h kept = ind_found bank entry p.0 p.1 r p.2 h kept
   ind_kept bank entry r (inr p) h kept = ind_open bank entry p.0 r p.1 h kept
 
   -- an eliminator
-  pub elim_none : (s : Universe) → lookup E x ≡ None → ComesTo (inside_of E G (Elim x s)) b (failed (unbound x) b)
-  unfolding inside_of behind infer elim_kind
-  elim_none s e = comes_fails (inside_of E G (Elim x s)) (unbound x) b (λ n. ap (elim_kind x s) e)
+  pub elim_none : (s : Universe) → lookup E x ≡ None → ComesTo (inside_of o E G (Elim x s)) b (failed (unbound x) b)
+  unfolding inside_of behind infer_by elim_kind
+  elim_none s e = comes_fails (inside_of o E G (Elim x s)) (unbound x) b (λ n. ap (elim_kind x s) e)
 
-  pub elim_other : (s : Universe) (bank : Terms) (entry : Entry) → Looks bank (Some entry) (lookup E x) → ((f : Family) (ss : List Universe) → ¬ (entry ≡ Entry.Family f ss)) → ComesTo (inside_of E G (Elim x s)) b (failed (unbound x) b)
-  unfolding inside_of behind infer elim_kind
-  elim_other s bank (Entry.Constant kind body opaque) h l = comes_fails (inside_of E G (Elim x s)) (unbound x) b (λ n. ap (elim_kind x s) h.1)
+  pub elim_other : (s : Universe) (bank : Terms) (entry : Entry) → Looks bank (Some entry) (lookup E x) → ((f : Family) (ss : List Universe) → ¬ (entry ≡ Entry.Family f ss)) → ComesTo (inside_of o E G (Elim x s)) b (failed (unbound x) b)
+  unfolding inside_of behind infer_by elim_kind
+  elim_other s bank (Entry.Constant kind body opaque) h l = comes_fails (inside_of o E G (Elim x s)) (unbound x) b (λ n. ap (elim_kind x s) h.1)
   elim_other s bank (Entry.Family f ss) h l = absurd (l f ss refl)
-  elim_other s bank (Entry.Arity kind) h l = comes_fails (inside_of E G (Elim x s)) (unbound x) b (λ n. ap (elim_kind x s) h.1)
-  elim_other s bank (Entry.Constructor f k) h l = comes_fails (inside_of E G (Elim x s)) (unbound x) b (λ n. ap (elim_kind x s) h.1)
-  elim_other s bank (Entry.Eliminator f t) h l = comes_fails (inside_of E G (Elim x s)) (unbound x) b (λ n. ap (elim_kind x s) h.1)
+  elim_other s bank (Entry.Arity kind) h l = comes_fails (inside_of o E G (Elim x s)) (unbound x) b (λ n. ap (elim_kind x s) h.1)
+  elim_other s bank (Entry.Constructor f k) h l = comes_fails (inside_of o E G (Elim x s)) (unbound x) b (λ n. ap (elim_kind x s) h.1)
+  elim_other s bank (Entry.Eliminator f t) h l = comes_fails (inside_of o E G (Elim x s)) (unbound x) b (λ n. ap (elim_kind x s) h.1)
 
-  pub elim_inside : (s : Universe) (bank : Terms) (r : Result TermId KernelFault) → Types bank r (λ n. elim_kind x s (lookup E x)) b b → Types bank r (inside_of E G (Elim x s)) b b
-  unfolding inside_of behind infer
+  pub elim_inside : (s : Universe) (bank : Terms) (r : Result TermId KernelFault) → Types bank r (λ n. elim_kind x s (lookup E x)) b b → Types bank r (inside_of o E G (Elim x s)) b b
+  unfolding inside_of behind infer_by
   elim_inside s bank r h = h
 
   -- a constructor
-  pub ctor_none : (k : ℕ) → lookup E x ≡ None → ComesTo (inside_of E G (Ctor x k)) b (failed (unbound x) b)
-  unfolding inside_of behind infer ctor_kind
-  ctor_none k e = comes_fails (inside_of E G (Ctor x k)) (unbound x) b (λ n. ap (ctor_kind x k) e)
+  pub ctor_none : (k : ℕ) → lookup E x ≡ None → ComesTo (inside_of o E G (Ctor x k)) b (failed (unbound x) b)
+  unfolding inside_of behind infer_by ctor_kind
+  ctor_none k e = comes_fails (inside_of o E G (Ctor x k)) (unbound x) b (λ n. ap (ctor_kind x k) e)
 
-  pub ctor_other : (k : ℕ) (bank : Terms) (entry : Entry) → Looks bank (Some entry) (lookup E x) → ((f : Family) (ss : List Universe) → ¬ (entry ≡ Entry.Family f ss)) → ComesTo (inside_of E G (Ctor x k)) b (failed (unbound x) b)
-  unfolding inside_of behind infer ctor_kind
-  ctor_other k bank (Entry.Constant kind body opaque) h l = comes_fails (inside_of E G (Ctor x k)) (unbound x) b (λ n. ap (ctor_kind x k) h.1)
+  pub ctor_other : (k : ℕ) (bank : Terms) (entry : Entry) → Looks bank (Some entry) (lookup E x) → ((f : Family) (ss : List Universe) → ¬ (entry ≡ Entry.Family f ss)) → ComesTo (inside_of o E G (Ctor x k)) b (failed (unbound x) b)
+  unfolding inside_of behind infer_by ctor_kind
+  ctor_other k bank (Entry.Constant kind body opaque) h l = comes_fails (inside_of o E G (Ctor x k)) (unbound x) b (λ n. ap (ctor_kind x k) h.1)
   ctor_other k bank (Entry.Family f ss) h l = absurd (l f ss refl)
-  ctor_other k bank (Entry.Arity kind) h l = comes_fails (inside_of E G (Ctor x k)) (unbound x) b (λ n. ap (ctor_kind x k) h.1)
-  ctor_other k bank (Entry.Constructor f j) h l = comes_fails (inside_of E G (Ctor x k)) (unbound x) b (λ n. ap (ctor_kind x k) h.1)
-  ctor_other k bank (Entry.Eliminator f t) h l = comes_fails (inside_of E G (Ctor x k)) (unbound x) b (λ n. ap (ctor_kind x k) h.1)
+  ctor_other k bank (Entry.Arity kind) h l = comes_fails (inside_of o E G (Ctor x k)) (unbound x) b (λ n. ap (ctor_kind x k) h.1)
+  ctor_other k bank (Entry.Constructor f j) h l = comes_fails (inside_of o E G (Ctor x k)) (unbound x) b (λ n. ap (ctor_kind x k) h.1)
+  ctor_other k bank (Entry.Eliminator f t) h l = comes_fails (inside_of o E G (Ctor x k)) (unbound x) b (λ n. ap (ctor_kind x k) h.1)
 
   module _ (k : ℕ) (bank : Terms) (f : Family) (ss : List Universe) where
-    ctor_is : (o : Option Tree) → constructor_kind (family_of bank f) k ≡ o → Looks bank (Some (Entry.Family f ss)) (lookup E x) → (n : ℕ) → inside_of E G (Ctor x k) n ≡ elim o [ Some A ↦ fitting A | None ↦ fails (unbound x) ]
-    unfolding inside_of behind infer ctor_kind
-    ctor_is o e h n = ap (ctor_kind x k) h.1 ∙ ap (λ (q : Option Tree). elim q as (λ z. Kernel Tree) [ Some A ↦ fitting A | None ↦ fails (unbound x) ]) e
+    ctor_is : (p : Option Tree) → constructor_kind (family_of bank f) k ≡ p → Looks bank (Some (Entry.Family f ss)) (lookup E x) → (n : ℕ) → inside_of o E G (Ctor x k) n ≡ elim p [ Some A ↦ fitting A | None ↦ fails (unbound x) ]
+    unfolding inside_of behind infer_by ctor_kind
+    ctor_is p e h n = ap (ctor_kind x k) h.1 ∙ ap (λ (q : Option Tree). elim q as (λ z. Kernel Tree) [ Some A ↦ fitting A | None ↦ fails (unbound x) ]) e
 
-    pub ctor_missing : (entry : Entry) → entry ≡ Entry.Family f ss → slice_get f.constructors k ≡ None → Looks bank (Some entry) (lookup E x) → ComesTo (inside_of E G (Ctor x k)) b (failed (unbound x) b)
+    pub ctor_missing : (entry : Entry) → entry ≡ Entry.Family f ss → slice_get f.constructors k ≡ None → Looks bank (Some entry) (lookup E x) → ComesTo (inside_of o E G (Ctor x k)) b (failed (unbound x) b)
     ctor_missing entry i e h =
-        comes_fails (inside_of E G (Ctor x k)) (unbound x) b (λ n. ctor_is None (kind_none bank f k e) (subst (λ z. Looks bank (Some z) (lookup E x)) i h) n)
+        comes_fails (inside_of o E G (Ctor x k)) (unbound x) b (λ n. ctor_is None (kind_none bank f k e) (subst (λ z. Looks bank (Some z) (lookup E x)) i h) n)
 
     ctor_member : (new : Terms) (p : NameId × TermId) (r : Result TermId KernelFault) → slice_get f.constructors k ≡ Some p → Looks bank (Some (Entry.Family f ss)) (lookup E x)
-        → Fitted new r (constructor_type (family_of bank f) (tree_of bank p.1)) → Types new r (inside_of E G (Ctor x k)) b b
+        → Fitted new r (constructor_type (family_of bank f) (tree_of bank p.1)) → Types new r (inside_of o E G (Ctor x k)) b b
     ctor_member new p r e h fits =
-        types_goes new r (inside_of E G (Ctor x k)) b (λ n. fitting (constructor_type (family_of bank f) (tree_of bank p.1))) b b
-        (goes_same (inside_of E G (Ctor x k)) (λ n. fitting (constructor_type (family_of bank f) (tree_of bank p.1))) b (λ n. ctor_is (Some (constructor_type (family_of bank f) (tree_of bank p.1))) (kind_some bank f k p e) h n))
+        types_goes new r (inside_of o E G (Ctor x k)) b (λ n. fitting (constructor_type (family_of bank f) (tree_of bank p.1))) b b
+        (goes_same (inside_of o E G (Ctor x k)) (λ n. fitting (constructor_type (family_of bank f) (tree_of bank p.1))) b (λ n. ctor_is (Some (constructor_type (family_of bank f) (tree_of bank p.1))) (kind_some bank f k p e) h n))
         (fitted_types new r (constructor_type (family_of bank f) (tree_of bank p.1)) b (within-constructor_type (family_of bank f) h.0.0.written (tree_of bank p.1) (stands_at bank _ f.constructors k p h.0.0.written.constructors e)) fits)
 
     pub ctor_found : (new : Terms) (entry : Entry) (p : NameId × TermId) (r : Result TermId KernelFault) → entry ≡ Entry.Family f ss → slice_get f.constructors k ≡ Some p → Looks bank (Some entry) (lookup E x)
-        → Fitted new r (constructor_type (family_of bank f) (tree_of bank p.1)) → Types new r (inside_of E G (Ctor x k)) b b
+        → Fitted new r (constructor_type (family_of bank f) (tree_of bank p.1)) → Types new r (inside_of o E G (Ctor x k)) b b
     ctor_found new entry p r i e h fits = ctor_member new p r e (subst (λ z. Looks bank (Some z) (lookup E x)) i h) fits
 
     pub ctor_has : (entry : Entry) (p : NameId × TermId) → entry ≡ Entry.Family f ss → slice_get f.constructors k ≡ Some p → Looks bank (Some entry) (lookup E x) → IsFamily bank f × IsScoped bank 0 p.1
@@ -293,13 +294,13 @@ is_above_base s l e f = above_base s l e f
 pub is_above_level : (s : Universe) (i l : ℕ) → s ≡ Universe.Level i → i < 3 → l ≡ i + 1 → IsAbove s l
 is_above_level s i l e h f = above_level s i l e h f
 
-module _ (E : Environment) (G : Context) (s : Universe) (b : ℕ) where
-  pub sort_typed : (new : Terms) (t : TermId) (l : ℕ) → IsTerm new t (Tree.Sort (Universe.Level l)) → IsAbove s l → Types new (Ok t) (inside_of E G (Tree.Sort s)) b b
-  unfolding inside_of behind infer
+module _ (o : Open) (E : Environment) (G : Context) (s : Universe) (b : ℕ) where
+  pub sort_typed : (new : Terms) (t : TermId) (l : ℕ) → IsTerm new t (Tree.Sort (Universe.Level l)) → IsAbove s l → Types new (Ok t) (inside_of o E G (Tree.Sort s)) b b
+  unfolding inside_of behind infer_by
   sort_typed new t l made e =
-      subst (λ z. IsType new t z × ComesTo (inside_of E G (Tree.Sort s)) b (done z b)) (sym made.is)
-      (record { term = made; within = tt; fits = refl }, comes_gives (inside_of E G (Tree.Sort s)) (Tree.Sort (Universe.Level l)) b (λ n. e))
+      subst (λ z. IsType new t z × ComesTo (inside_of o E G (Tree.Sort s)) b (done z b)) (sym made.is)
+      (record { term = made; within = tt; fits = refl }, comes_gives (inside_of o E G (Tree.Sort s)) (Tree.Sort (Universe.Level l)) b (λ n. e))
 
-  pub sort_untyped : (i : ℕ) → s ≡ Universe.Level i → 3 ≤ i → ComesTo (inside_of E G (Tree.Sort s)) b (failed no_sort_above b)
-  unfolding inside_of behind infer
-  sort_untyped i e h = comes_fails (inside_of E G (Tree.Sort s)) no_sort_above b (λ n. none_above s i e h)
+  pub sort_untyped : (i : ℕ) → s ≡ Universe.Level i → 3 ≤ i → ComesTo (inside_of o E G (Tree.Sort s)) b (failed no_sort_above b)
+  unfolding inside_of behind infer_by
+  sort_untyped i e h = comes_fails (inside_of o E G (Tree.Sort s)) no_sort_above b (λ n. none_above s i e h)

@@ -8,6 +8,7 @@ pub mod LookLaws
 pub mod FamilyLaws
 pub mod Leaves
 pub mod SortLaws
+pub mod ClosedLaws
 pub mod Cycle
 pub mod CallLaws
 pub mod ConstantLaws

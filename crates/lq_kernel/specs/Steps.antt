@@ -16,7 +16,8 @@ use Rattle.lq_reduce.specs.declared.faults.ReduceFault.{ReduceFault}
 use Rattle.lq_env.specs.declared.family.EnvFault.{EnvFault}
 use Rattle.lq_calculus.specs.Declarations.{Env as Environment}
 use Rattle.lq_calculus.specs.Typing.{is_product}
-use Rattle.lq_calculus.specs.Checking.{Kernel, unbound, as_product, needed_form, infer, strange}
+use Rattle.lq_calculus.specs.Checking.{Kernel, unbound, as_sort, as_product, needed_form, matching, strange}
+use Rattle.lq_inference.specs.Inference.{Open, matching_by, infer_by}
 use Rattle.lq_kernel.specs.declared.faults.KernelFault.{KernelFault}
 use Rattle.lq_kernel.specs.Answers.{Refuses}
 use Rattle.lq_kernel.specs.Closed.{IsScoped, IsHypothesis}
@@ -51,9 +52,19 @@ abbrev pub Products : Terms → Result (TermId × TermId) KernelFault → (ℕ �
 Products bank (Ok p) f b left = IsProduct bank p × ComesTo f b (done (tree_of bank p.0, tree_of bank p.1) left)
 Products bank (Err e) f b left = Refuses bank e f b left
 
+-- inference where a caller gives the types of variables: the sort of a term, the term against a type, and against one that was written
+unfoldable pub sort_by : Open → Environment → ℕ → Context → Tree → Kernel Universe
+sort_by o env n g A = infer_by o env n g A >>= λ K. needed_form env n g K >>= as_sort
+
+unfoldable pub check_by : Open → Environment → ℕ → Context → Tree → Tree → Kernel (Unit {0})
+check_by o env n g t A = infer_by o env n g t >>= λ B. matching env n g B A
+
+unfoldable pub written_by : Open → Environment → ℕ → Context → Tree → Tree → Kernel (Unit {0})
+written_by o env n g t A = infer_by o env n g t >>= λ B. matching_by o env n g B A
+
 -- the product that the type of a function must be
-unfoldable pub product_of : Environment → ℕ → Context → Tree → Kernel (Tree × Tree)
-product_of env n g f = infer env n g f >>= λ F. needed_form env n g F >>= as_product
+unfoldable pub product_of : Open → Environment → ℕ → Context → Tree → Kernel (Tree × Tree)
+product_of o env n g f = infer_by o env n g f >>= λ F. needed_form env n g F >>= as_product
 
 -- what inference does behind the tick of a node
 unfoldable pub behind : {F A : Type 0} → Paid F A → Paid F A
@@ -62,8 +73,23 @@ behind (fails f) = fails f
 behind cut = cut
 behind (tick r) = r
 
-unfoldable pub inside_of : Environment → Context → Tree → ℕ → Kernel Tree
-inside_of env g t n = behind (infer env (suc n) g t)
+unfoldable pub inside_of : Open → Environment → Context → Tree → ℕ → Kernel Tree
+inside_of o env g t n = behind (infer_by o env (suc n) g t)
+
+-- the tree is a variable with an instance
+abbrev pub IsUnknown : Tree → Type 0
+IsUnknown (Tree.Evar k ts) = Unit {0}
+IsUnknown (Tree.Rel i) = ⊥
+IsUnknown (Tree.Var x) = ⊥
+IsUnknown (Tree.Sort s) = ⊥
+IsUnknown (Tree.Prod x A B) = ⊥
+IsUnknown (Tree.Lam x A t) = ⊥
+IsUnknown (Tree.Let x v A t) = ⊥
+IsUnknown (Tree.App f a) = ⊥
+IsUnknown (Tree.Const c) = ⊥
+IsUnknown (Tree.Ind c) = ⊥
+IsUnknown (Tree.Ctor c k) = ⊥
+IsUnknown (Tree.Elim c s) = ⊥
 
 -- a term for the tree that is within the limits, or the fault of the limit that the tree passes
 abbrev pub Fitted : Terms → Result TermId KernelFault → Tree → Type 0

@@ -11,9 +11,9 @@ ghost use Rattle.lq_kernel.specs.Closed.{IsScoped};
 ghost use Rattle.lq_kernel.specs.Answers.{Accepts, Declares};
 ghost use Rattle.lq_kernel.specs.Steps.{KnowsAll};
 
+use crate::closed::{check_in, sort_in};
 use crate::faults::{KernelFault, lacking};
 use crate::looking::known;
-use crate::typing::{check_in, sort_in};
 use lq_env::{Env, EnvFault};
 use lq_terms::{Bank, Context, NameId, Steps, TermId, Work};
 use std::sync::ledger::Ledger;

@@ -16,11 +16,11 @@ ghost use Rattle.lq_kernel.specs.Answers.{Refuses, Checks};
 ghost use Rattle.lq_kernel.specs.Steps.{KnowsAll};
 ghost use Rattle.lq_kernel.specs.Declaring.{IsOffered, constructor_work, FindsSmall};
 
+use crate::closed::sort_in;
 use crate::faults::KernelFault;
 use crate::inside::copied;
 use crate::looking::known;
 use crate::telescopes::{all_proofs, first_big, telescope_sort};
-use crate::typing::sort_in;
 use lq_env::{Env, Family};
 use lq_terms::{Bank, Context, Hypothesis, NameId, NoMemory, Steps, TermId, Work};
 use lq_trees::Sort;

@@ -10,12 +10,14 @@ ghost use Rattle.lq_terms.specs.Contexts.{context_of};
 ghost use Rattle.lq_calculus.specs.Declarations.{Env as Environment, rules_of};
 ghost use Rattle.lq_calculus.specs.Typing.{product_sort};
 ghost use Rattle.lq_calculus.specs.Checking.{needed_form, matching, conv};
+ghost use Rattle.lq_inference.specs.Inference.{Open, matching_by};
 ghost use Rattle.lq_env.specs.Environments.{IsEnv, env_of};
 ghost use Rattle.lq_kernel.specs.Answers.{Checks};
 ghost use Rattle.lq_kernel.specs.Closed.{IsScoped, IsContext};
 ghost use Rattle.lq_kernel.specs.Steps.{Types, Answers, Fitted, IsSortOr, IsProductOr};
 
 use crate::faults::KernelFault;
+use crate::variables::Variables;
 use lq_env::Env;
 use lq_reduce::{conv, whnf};
 use lq_terms::{Bank, Context, NameId, NoBodies, Node, Steps, TermId, Work, close, fits, subst};
@@ -119,6 +121,39 @@ pub(crate) fn matching<L: Ledger>(
         Ok(())
     } else {
         Err(KernelFault::Mismatch(found, wanted))
+    }
+}
+
+/// Refuses a found type that does not compare with one that was written.
+pub(crate) fn matching_written<V: Variables, L: Ledger>(
+    work: &mut Work<'_, '_>,
+    env: &Env,
+    variables: &V,
+    context: &Context,
+    found: TermId,
+    written: TermId,
+    steps: &mut Steps<L>,
+) -> Result<(), KernelFault>
+    requires found { IsScoped work.old.bank.now 0 found }
+    requires written { IsScoped work.old.bank.now 0 written }
+    requires env { IsEnv work.old.bank.now env.now }
+    requires variables { V.stand variables.now work.old.bank.now }
+    requires context { IsContext work.old.bank.now context.now }
+    ensures answer { (o : Open) (E : Environment) (G : TreeContext) (T U : Tree) → V.given variables.now work.old.bank.now ≡ o
+        → env_of work.old.bank.now env.now ≡ E → context_of work.old.bank.now context.now ≡ G
+        → tree_of work.old.bank.now found ≡ T → tree_of work.old.bank.now written ≡ U
+        → Checks work.new.bank.now result (λ n. matching_by o E n G T U) work.old.ticks.now.left work.new.ticks.now.left }
+    ensures same_bank { work.new.bank.ghost_name ≡ work.old.bank.ghost_name }
+    ensures same_ticks { work.new.ticks.ghost_name ≡ work.old.ticks.ghost_name }
+    ensures grows { Grows work.old.bank.now work.new.bank.now }
+    ensures budget { work.new.ticks.now.left + work.new.ticks.now.spent ≡ work.old.ticks.now.left + work.old.ticks.now.spent }
+    ensures counted { steps.new + work.old.ticks.now.spent ≡ steps.old + work.new.ticks.now.spent }
+{
+    let same = compares(work, env, context, found, written, steps)?;
+    if same {
+        Ok(())
+    } else {
+        Err(variables.differ(work.bank, found, written))
     }
 }
 

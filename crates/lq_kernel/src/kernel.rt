@@ -5,19 +5,22 @@ ghost use Rattle.lq_terms.specs.Terms.{tree_of, Grows};
 ghost use Rattle.lq_terms.specs.Contexts.{context_of};
 ghost use Rattle.lq_calculus.specs.Typing.{Derives, DerivedEnv};
 ghost use Rattle.lq_calculus.specs.Checking.{infer_call, check_call, sort_of};
+ghost use Rattle.lq_inference.specs.Inference.{infer_by};
 ghost use Rattle.lq_env.specs.Environments.{IsEnv, env_of, Extends};
 ghost use Rattle.lq_kernel.specs.Closed.{IsScoped, IsContext};
 ghost use Rattle.lq_kernel.specs.Answers.{Infers, Checks, Declares};
 ghost use Rattle.lq_kernel.specs.Declaring.{IsDeclaration, Drops, declare};
-ghost use Rattle.lq_kernel.specs.Steps.{Sorts};
+ghost use Rattle.lq_kernel.specs.Steps.{Types, Sorts};
 
+use crate::closed::{check_in, sort_in, type_of};
 use crate::constants::declare_constant;
 use crate::declaration::Declaration;
 use crate::declaring::declare_family;
 use crate::faults::KernelFault;
 use crate::inside::copied;
 use crate::looking::known;
-use crate::typing::{check_in, sort_in, type_of};
+use crate::typing;
+use crate::variables::Variables;
 use lq_env::Env;
 use lq_terms::{Context, Steps, TermId, Work};
 use lq_trees::Sort;
@@ -51,6 +54,33 @@ pub fn infer<L: Ledger>(
     known(work.bank, context.hypotheses(), term)?;
     let mut lent = copied(work.bank.allocator(), context)?;
     type_of(work, env, &mut lent, term, steps)
+}
+
+/// The type of a term as [`infer`] gives it, where a caller gives the types of variables: a variable costs its tick, has the type that
+/// the caller gives for its instance, and is refused as the caller says; so is a local definition whose value has not the type that is
+/// written. Strange hypotheses are not looked for before the work. The answer is within the limits, and calls go as deep as the term is.
+pub fn infer_with<V: Variables, L: Ledger>(
+    work: &mut Work<'_, '_>,
+    env: &Env,
+    variables: &V,
+    context: &Context,
+    term: TermId,
+    steps: &mut Steps<L>,
+) -> Result<TermId, KernelFault>
+    requires term { IsScoped work.old.bank.now 0 term }
+    requires env { IsEnv work.old.bank.now env.now }
+    requires variables { V.stand variables.now work.old.bank.now }
+    requires context { IsContext work.old.bank.now context.now }
+    ensures answer { Types work.new.bank.now result (λ n. infer_by (V.given variables.now work.old.bank.now) (env_of work.old.bank.now env.now) n
+        (context_of work.old.bank.now context.now) (tree_of work.old.bank.now term)) work.old.ticks.now.left work.new.ticks.now.left }
+    ensures same_bank { work.new.bank.ghost_name ≡ work.old.bank.ghost_name }
+    ensures same_ticks { work.new.ticks.ghost_name ≡ work.old.ticks.ghost_name }
+    ensures grows { Grows work.old.bank.now work.new.bank.now }
+    ensures budget { work.new.ticks.now.left + work.new.ticks.now.spent ≡ work.old.ticks.now.left + work.old.ticks.now.spent }
+    ensures counted { steps.new + work.old.ticks.now.spent ≡ steps.old + work.new.ticks.now.spent }
+{
+    let mut lent = copied(work.bank.allocator(), context)?;
+    typing::type_of(work, env, variables, &mut lent, term, steps)
 }
 
 /// Refuses a term that has not the type under the hypotheses of a context: the term's own type is

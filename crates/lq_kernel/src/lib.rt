@@ -2,6 +2,7 @@
 #![tactic(auto)]
 
 mod arities;
+mod closed;
 mod constants;
 mod declaration;
 mod declaring;
@@ -14,7 +15,9 @@ mod looking;
 mod lookups;
 mod telescopes;
 mod typing;
+mod variables;
 
 pub use declaration::Declaration;
 pub use faults::KernelFault;
-pub use kernel::{check, declare, infer, sort_of};
+pub use kernel::{check, declare, infer, infer_with, sort_of};
+pub use variables::Variables;

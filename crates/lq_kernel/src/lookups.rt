@@ -9,6 +9,7 @@ ghost use Rattle.lq_terms.specs.Contexts.{hypothesis_of, context_of};
 ghost use Rattle.lq_calculus.specs.Contraction.{hypothesis};
 ghost use Rattle.lq_calculus.specs.Declarations.{Env as Environment, lookup, constructor_type};
 ghost use Rattle.lq_calculus.specs.Checking.{fitting, elim_kind};
+ghost use Rattle.lq_inference.specs.Inference.{Open};
 ghost use Rattle.lq_env.specs.Environments.{IsEnv, IsFamilyEntry, env_of, entry_at, kind_of};
 ghost use Rattle.lq_env.specs.Families.{IsSort, IsFamily, family_of};
 ghost use Rattle.lq_kernel.specs.Closed.{IsScoped, IsHypothesis, IsContext};
@@ -46,7 +47,7 @@ pub(crate) fn hypothesis_type(
 ) -> Result<TermId, KernelFault>
     requires name { HasName bank.now name }
     requires context { IsContext bank.now hypotheses.now }
-    ensures { (E : Environment) (b : ℕ) → Types bank.now result (inside_of E (context_of bank.now hypotheses.now) (Tree.Var (text_of bank.now name))) b b }
+    ensures { (o : Open) (E : Environment) (b : ℕ) → Types bank.now result (inside_of o E (context_of bank.now hypotheses.now) (Tree.Var (text_of bank.now name))) b b }
 {
     match find(bank, hypotheses, name) {
         Some(hypothesis) => within_limits(bank, hypothesis.kind),
@@ -56,7 +57,7 @@ pub(crate) fn hypothesis_type(
 
 /// The type of a sort.
 pub(crate) fn sort_type(bank: &mut Bank<'_>, sort: Sort) -> Result<TermId, KernelFault>
-    ensures answer { (E : Environment) (G : TreeContext) (b : ℕ) → Types bank.new result (inside_of E G (Tree.Sort sort)) b b }
+    ensures answer { (o : Open) (E : Environment) (G : TreeContext) (b : ℕ) → Types bank.new result (inside_of o E G (Tree.Sort sort)) b b }
     ensures grows { Grows bank.old bank.new }
 {
     let level = match sort {
@@ -71,7 +72,7 @@ pub(crate) fn sort_type(bank: &mut Bank<'_>, sort: Sort) -> Result<TermId, Kerne
 pub(crate) fn constant_type(bank: &Bank<'_>, env: &Env, name: NameId) -> Result<TermId, KernelFault>
     requires name { HasName bank.now name }
     requires env { IsEnv bank.now env.now }
-    ensures { (G : TreeContext) (b : ℕ) → Types bank.now result (inside_of (env_of bank.now env.now) G (Tree.Const (text_of bank.now name))) b b }
+    ensures { (o : Open) (G : TreeContext) (b : ℕ) → Types bank.now result (inside_of o (env_of bank.now env.now) G (Tree.Const (text_of bank.now name))) b b }
 {
     bank.names_apart();
     let Some(entry) = env.lookup(name) else {
@@ -101,7 +102,7 @@ fn kept_type(bank: &Bank<'_>, env: &Env, name: NameId) -> Result<TermId, KernelF
 pub(crate) fn family_type(bank: &Bank<'_>, env: &Env, name: NameId) -> Result<TermId, KernelFault>
     requires name { HasName bank.now name }
     requires env { IsEnv bank.now env.now }
-    ensures { (G : TreeContext) (b : ℕ) → Types bank.now result (inside_of (env_of bank.now env.now) G (Tree.Ind (text_of bank.now name))) b b }
+    ensures { (o : Open) (G : TreeContext) (b : ℕ) → Types bank.now result (inside_of o (env_of bank.now env.now) G (Tree.Ind (text_of bank.now name))) b b }
 {
     bank.names_apart();
     let Some(entry) = env.lookup(name) else {
@@ -122,7 +123,7 @@ pub(crate) fn eliminator_type(
 ) -> Result<TermId, KernelFault>
     requires name { HasName bank.now name }
     requires env { IsEnv bank.now env.now }
-    ensures { (G : TreeContext) (b : ℕ) → Types bank.now result (inside_of (env_of bank.now env.now) G (Tree.Elim (text_of bank.now name) sort)) b b }
+    ensures { (o : Open) (G : TreeContext) (b : ℕ) → Types bank.now result (inside_of o (env_of bank.now env.now) G (Tree.Elim (text_of bank.now name) sort)) b b }
 {
     bank.names_apart();
     let Some(entry) = env.lookup(name) else {
@@ -183,7 +184,7 @@ pub(crate) fn constructor_type(
 ) -> Result<TermId, KernelFault>
     requires name { HasName bank.old name }
     requires env { IsEnv bank.old env.now }
-    ensures answer { (G : TreeContext) (b : ℕ) → Types bank.new result (inside_of (env_of bank.old env.now) G (Tree.Ctor (text_of bank.old name) index)) b b }
+    ensures answer { (o : Open) (G : TreeContext) (b : ℕ) → Types bank.new result (inside_of o (env_of bank.old env.now) G (Tree.Ctor (text_of bank.old name) index)) b b }
     ensures grows { Grows bank.old bank.new }
 {
     bank.names_apart();

@@ -12,10 +12,10 @@ ghost use Rattle.lq_env.specs.Environments.{IsEnv, env_of};
 ghost use Rattle.lq_kernel.specs.Closed.{IsScoped, IsHypothesis, IsContext};
 ghost use Rattle.lq_kernel.specs.Steps.{Sorts, IsSplitOr};
 
+use crate::closed::sort_in;
 use crate::faults::KernelFault;
 use crate::forms::product_sort;
 use crate::inside::variable;
-use crate::typing::sort_in;
 use lq_env::Env;
 use lq_terms::{Bank, Context, Hypothesis, NameId, Node, Steps, TermId, Work, open};
 use lq_trees::Sort;

@@ -15,7 +15,8 @@ use Rattle.lq_calculus.specs.Declarations.{Env, rules_of, variables}
 use Rattle.lq_calculus.proofs.ConvSound.{Gives, gives_bind}
 use Rattle.lq_solving.specs.Stores.{Store, Variable, StoreFault, names_in, names_at, find_value, own_instance, instance_list, count, most_variables, read, read_context, read_hypothesis, named_variable, new_variable, with_variable}
 use Rattle.lq_solving.specs.Kept.{IsOver, Stands, OptionStands, StandBehind, IsContext, IsStore}
-use Rattle.lq_solving.specs.Inference.{infer_by, by_store_types, infer_open}
+use Rattle.lq_inference.specs.Inference.{infer_by}
+use Rattle.lq_solving.specs.Inference.{by_store_types, infer_open}
 use Rattle.lq_solving.specs.Unification.{Answer, unify}
 use Rattle.lq_solving.specs.ElabFaults.{ElabFault, Elab, elab_fitting, carrying, store_fault, by_unify, by_store, kernel_fault, unify_fault, type_of}
 use Rattle.lq_solving.specs.Elaboration.{Site, Found, found, form_of, unified, made}

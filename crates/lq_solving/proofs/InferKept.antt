@@ -21,7 +21,8 @@ use Rattle.lq_calculus.proofs.ConvSound.{Gives, gives_bind}
 use Rattle.lq_solving.specs.Stores.{Variable, Assigned, Store, names_in, names_at, body_at, read}
 use Rattle.lq_solving.specs.Kept.{IsVariable, IsStore}
 use Rattle.lq_solving.proofs.KindLaws.{all_get}
-use Rattle.lq_solving.specs.Inference.{infer_by, matching_by, by_store_types, variable_kind}
+use Rattle.lq_inference.specs.Inference.{infer_by, matching_by}
+use Rattle.lq_solving.specs.Inference.{by_store_types, variable_kind}
 use Rattle.lq_solving.specs.Claims.{IsPlain, ArePlainDeclarations}
 use Rattle.lq_solving.proofs.InstanceLaws.{found_value}
 use Rattle.lq_solving.proofs.Steady.{entries_replace}

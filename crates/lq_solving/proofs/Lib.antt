@@ -1,5 +1,4 @@
 pub mod TrailLaws
-pub mod InferLaws
 pub mod UnifySettled
 pub mod WaitingLaws
 pub mod ElabSettled

@@ -5,11 +5,11 @@ use Rattle.lq_kernel.proofs.Told.{own}
 use Rattle.lq_kernel.proofs.lookups.constant_type.Goals as goal
 
 pub returns-in_default : goal.returns-in_default
-returns-in_default c G b = (c.requires.name, const_none (env_of c.args.bank.now c.args.env.now) G (text_of c.args.bank.now c.args.name) b (c.in_default.ensures.told c.args.bank.now c.requires.env (own c.args.bank.now c.args.name c.names_apart.ensures c.requires.name)))
+returns-in_default c o G b = (c.requires.name, const_none o (env_of c.args.bank.now c.args.env.now) G (text_of c.args.bank.now c.args.name) b (c.in_default.ensures.told c.args.bank.now c.requires.env (own c.args.bank.now c.args.name c.names_apart.ensures c.requires.name)))
 
 pub returns-in-Constant : goal.returns-in-Constant
-returns-in-Constant c G b =
-    const_found (env_of c.args.bank.now c.args.env.now) G (text_of c.args.bank.now c.args.name) b c.args.bank.now c.in-Some.entry.now c.in-Constant.kind c.in-Constant.body c.in-Constant.opaque c.within_limits.result c.in-Constant.is (c.in-Some.ensures.told c.args.bank.now c.requires.env (own c.args.bank.now c.args.name c.names_apart.ensures c.requires.name)) c.within_limits.ensures
+returns-in-Constant c o G b =
+    const_found o (env_of c.args.bank.now c.args.env.now) G (text_of c.args.bank.now c.args.name) b c.args.bank.now c.in-Some.entry.now c.in-Constant.kind c.in-Constant.body c.in-Constant.opaque c.within_limits.result c.in-Constant.is (c.in-Some.ensures.told c.args.bank.now c.requires.env (own c.args.bank.now c.args.name c.names_apart.ensures c.requires.name)) c.within_limits.ensures
 
 pub returns-in_default-entry : goal.returns-in_default-entry
-returns-in_default-entry c G b = (c.requires.name, const_other (env_of c.args.bank.now c.args.env.now) G (text_of c.args.bank.now c.args.name) b c.args.bank.now c.in-Some.entry.now (c.in-Some.ensures.told c.args.bank.now c.requires.env (own c.args.bank.now c.args.name c.names_apart.ensures c.requires.name)) c.in_default-entry.not-Constant)
+returns-in_default-entry c o G b = (c.requires.name, const_other o (env_of c.args.bank.now c.args.env.now) G (text_of c.args.bank.now c.args.name) b c.args.bank.now c.in-Some.entry.now (c.in-Some.ensures.told c.args.bank.now c.requires.env (own c.args.bank.now c.args.name c.names_apart.ensures c.requires.name)) c.in_default-entry.not-Constant)

@@ -18,6 +18,9 @@ decreases-product_in g l = 6 * size (tree_of l.work.now.bank.now l.term) + 2
 abbrev pub decreases-check_in : goal.decreases-check_in
 decreases-check_in g l = 6 * size (tree_of l.work.now.bank.now l.term) + 2
 
+abbrev pub decreases-written_in : goal.decreases-written_in
+decreases-written_in g l = 6 * size (tree_of l.work.now.bank.now l.term) + 2
+
 abbrev pub decreases-product_type : goal.decreases-product_type
 decreases-product_type g l = 6 * (size (tree_of l.work.now.bank.now l.kind) + size (tree_of l.work.now.bank.now l.rest)) + 5
 

@@ -1,0 +1,2 @@
+// Inference: specs/ has inference that a caller gives the types of variables, proofs/ its laws.
+#![tactic(auto)]
