@@ -20,7 +20,7 @@ use Rattle.lq_states.specs.Goals.{Proof, GoalFault as TreeFault, with_lists, has
 use Rattle.lq_states.specs.Kept.{times, listed_goals, IsListed, MayReplace, IsProof, IsSwept}
 use Rattle.lq_states.proofs.ListLaws.{times_without, has_stands}
 use Rattle.lq_states.proofs.KeptLaws.{times_listed, exchanged, replaced_kept}
-use Rattle.lq_states.proofs.SweepLaws.{IsQuiet, nothing_leaves, proof_swept}
+use Rattle.lq_states.proofs.SweepLaws.{IsQuiet, nothing_leaves, proof_swept, swept_shelved}
 use Rattle.lq_states.proofs.FrameLaws.{alone_kept}
 use Rattle.lq_goals.specs.declared.proof.GoalFault.{GoalFault}
 use Rattle.lq_goals.specs.Held.{Held, proof_of, with_goals, open_one, open_in, is_missing, Changes, Exchanges, AreQuiet, IsPlain}
@@ -262,6 +262,12 @@ unfolding shelve
 shelved_is bank p q ks e s f h =
     ap (λ b. elim b as (λ z. Result Proof TreeFault) [ true ↦ Ok (with_lists (proof_of bank p) (without ks p.focus) [] (p.shelf ++ ks)) | false ↦ Err nothing_focused ]) e
     ∙ ap Ok (sym (ap (λ z. record { store = store_of bank z; focus = q.focus; frames = []; shelf = q.shelf }) s ∙ ap₂ (λ x y. record { store = store_of bank p.store; focus = x; frames = []; shelf = y }) f h))
+
+pub shelved_swept : (bank : Terms) (p q : Held) (ks : List ℕ) → q.given ≡ p.given → q.seen ≡ p.seen → IsSwept (proof_of bank p) p.given p.seen →
+    shelve (proof_of bank p) ks ≡ Ok (proof_of bank q) → IsSwept (proof_of bank q) q.given q.seen
+shelved_swept bank p q ks e f w h =
+    subst (λ n. IsSwept (proof_of bank q) n q.seen) (sym e)
+    (subst (IsSwept (proof_of bank q) p.given) (sym f) (swept_shelved (proof_of bank p) (proof_of bank q) p.given p.seen ks w h))
 
 pub appended : {A E : Type 0} (r : Result A E) (xs ys : List ℕ) (zs : List ℕ) → is_err r ≡ false → zs ≡ (if is_ok r then xs ++ ys else xs) → zs ≡ xs ++ ys
 appended (Ok a) xs ys zs e f = f

@@ -26,7 +26,7 @@ use Rattle.lq_states.proofs.ListLaws.{times_without}
 use Rattle.lq_states.specs.Views.{GoalView as TreeView, ProofView as TreeProofView, goal_view, view_of, context_terms, goal_terms, first_unfit, fitting_view, unless_fault, views, all_terms, proof_view}
 use Rattle.lq_goals.specs.declared.views.GoalView.{GoalView}
 use Rattle.lq_goals.specs.Held.{Held, proof_of}
-use Rattle.lq_goals.specs.Seen.{IsReadable, IsReadableOr, CanRead, Tells, ReadsAs, Shows, IsTree, AreHypotheses, IsView, AreViews}
+use Rattle.lq_goals.specs.Seen.{IsReadable, IsReadableOr, CanRead, Tells, ReadsAs, Shows, ShowsGoal, IsTree, AreHypotheses, IsView, AreViews}
 use Rattle.lq_goals.proofs.Seeing.{or_fault, unfit_append, unfit_one, unfit_none, told_first, told_behind}
 
 -- ---- a variable of the store
@@ -109,6 +109,22 @@ reads_shows Is b (Err e) (Some x) h = h
 pub view_shows : {A : Type 0} (Is : TreeView → A → Type 0) (g : TreeView) (r : Result A StoreFault) → ReadsAs (Is g) r (first_unfit (goal_terms g)) → Shows Is r (fitting_view g)
 unfolding fitting_view
 view_shows Is g r h = reads_shows Is g r (first_unfit (goal_terms g)) h
+
+-- so for one that is there
+pub goal_shows : (bank now : Terms) (s : Places) (k : ℕ) → k < length s.variables → (r : Result GoalView StoreFault) →
+    ((g : TreeView) → goal_view (store_of bank s) k ≡ Some g → ReadsAs (IsView now g) r (first_unfit (goal_terms g))) → ShowsGoal now r (goal_view (store_of bank s) k)
+unfolding goal_view view_of
+goal_shows bank now s k l r h =
+    let v = variable_at s k l in
+    let e = ap (view_of (store_of bank s)) (variable_told bank s k v.0 v.1) in
+    subst (ShowsGoal now r) (sym e) (view_shows (IsView now) (shown v.0) r (h (shown v.0) e))
+  where
+    shown : Variable → TreeView
+    shown v = record {
+      name = (variable_of bank v).name;
+      context = read_context (store_of bank s) (variable_of bank v).context;
+      kind = read (store_of bank s) (variable_of bank v).kind;
+    }
 
 name_grown : (old now : Terms) → Grows old now → (o : Option NameId) → HasNameOr old o → (option_map (text_of now) o ≡ option_map (text_of old) o) × HasNameOr now o
 name_grown old now g None h = (refl, tt)

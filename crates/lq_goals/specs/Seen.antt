@@ -13,7 +13,7 @@ use Rattle.lq_solving.specs.Kept.{IsOver}
 use Rattle.lq_evars.specs.declared.store.StoreFault.{StoreFault}
 use Rattle.lq_evars.specs.declared.store.Variable.{Variable}
 use Rattle.lq_evars.specs.Places.{Places, store_of, HasNameOr}
-use Rattle.lq_states.specs.Views.{GoalView as TreeView, ProofView as TreeProofView, context_terms, goal_terms, all_terms, first_unfit}
+use Rattle.lq_states.specs.Views.{GoalView as TreeView, ProofView as TreeProofView, context_terms, goal_terms, all_terms, first_unfit, fitting_view}
 use Rattle.lq_goals.specs.declared.views.GoalView.{GoalView}
 use Rattle.lq_goals.specs.declared.views.ProofView.{ProofView}
 
@@ -90,6 +90,11 @@ AreViews bank [] [] = Unit {0}
 AreViews bank (g ∷ gs) (v ∷ vs) = IsView bank g v × AreViews bank gs vs
 AreViews bank [] (v ∷ vs) = ⊥
 AreViews bank (g ∷ gs) [] = ⊥
+
+-- The answer of a goal as it reads: the goal is there, and the answer is the definition's. Memory may end at any time.
+abbrev pub ShowsGoal : Terms → Result GoalView StoreFault → Option TreeView → Type 0
+ShowsGoal bank r None = ⊥
+ShowsGoal bank r (Some g) = Shows (IsView bank) r (fitting_view g)
 
 -- a proof's goals are those of a proof over trees
 pub record IsProofView (bank : Terms) (g : TreeProofView) (v : ProofView) : Type 0 where

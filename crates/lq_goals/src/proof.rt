@@ -9,7 +9,7 @@ ghost use Rattle.lq_solving.specs.Kept.{IsStore, IsVariable};
 ghost use Rattle.lq_evars.specs.Places.{HasStore, store_of};
 ghost use Rattle.lq_evars.specs.contracts.store.Store.{the_row as store_row};
 ghost use Rattle.lq_states.specs.Goals.{alone, started, without, replaced, shelve, open_count};
-ghost use Rattle.lq_states.specs.Kept.{IsListed, MayReplace, IsProof, IsSwept};
+ghost use Rattle.lq_states.specs.Kept.{IsListed, AreDistinct, MayReplace, IsProof, IsSwept};
 ghost use Rattle.lq_goals.specs.Held.{proof_of, with_places, with_goals, open_in, Changes, Exchanges, AreQuiet, IsQuiet, IsPlain};
 ghost use Rattle.lq_evars.specs.declared.store.StoreFault.{StoreFault};
 ghost use Rattle.lq_goals.specs.contracts.proof.Proof.{the_row};
@@ -297,6 +297,10 @@ impl Proof {
         ensures kept { OnErr result (self.new ≡ self.old) }
         ensures store { self.new.store ≡ self.old.store }
         ensures told { (bank : Terms) → Changes bank result self.new (shelve (proof_of bank self.old) goals.now) }
+        ensures swept { (bank : Terms) → IsSwept (proof_of bank self.old) self.old.given self.old.seen
+            → OnOk result (IsSwept (proof_of bank self.new) self.new.given self.new.seen) }
+        ensures listed { (bank : Terms) → IsListed (proof_of bank self.old) → AreDistinct goals.now → OnOk result (IsListed (proof_of bank self.new)) }
+        ensures stands { (bank : Terms) → IsProof (proof_of bank self.old) → AreDistinct goals.now → OnOk result (IsProof (proof_of bank self.new)) }
     {
         if !has_each(self.focus.as_slice(), goals) {
             return Err(GoalFault::NothingFocused);

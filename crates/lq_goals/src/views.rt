@@ -9,10 +9,10 @@ ghost use Rattle.lq_solving.specs.Stores.{read, read_hypothesis, read_context};
 ghost use Rattle.lq_solving.specs.Kept.{IsStore};
 ghost use Rattle.lq_evars.specs.Places.{HasStore, store_of};
 ghost use Rattle.lq_states.specs.Views.{GoalView as TreeView, goal_view, goal_terms, context_terms, all_terms, first_unfit, views};
-ghost use Rattle.lq_states.specs.Views.{fitting_view, proof_view, fitting_root};
+ghost use Rattle.lq_states.specs.Views.{proof_view, fitting_root};
 ghost use Rattle.lq_states.specs.Kept.{IsListed};
 ghost use Rattle.lq_goals.specs.Held.{proof_of};
-ghost use Rattle.lq_goals.specs.Seen.{IsReadableOr, CanRead, ReadsAs, Shows, IsRoot, IsTree, IsBody, IsHypothesis, AreHypotheses, IsView, AreViews, IsProofView};
+ghost use Rattle.lq_goals.specs.Seen.{IsReadableOr, CanRead, ReadsAs, Shows, ShowsGoal, IsRoot, IsTree, IsBody, IsHypothesis, AreHypotheses, IsView, AreViews, IsProofView};
 ghost use Rattle.lq_goals.specs.Seen.{body_terms, hypothesis_terms};
 
 use crate::proof::Proof;
@@ -182,7 +182,7 @@ impl Proof {
         requires store { HasStore bank.old self.now.store }
         requires kept { IsStore (store_of bank.old self.now.store) }
         requires goal { goal < length self.now.store.variables }
-        ensures told { (g : TreeView) → goal_view (store_of bank.old self.now.store) goal ≡ Some g → Shows (IsView bank.new) result (fitting_view g) }
+        ensures told { ShowsGoal bank.new result (goal_view (store_of bank.old self.now.store) goal) }
         ensures grows { Grows bank.old bank.new }
     {
         read_goal(bank, self.store(), goal)

@@ -5,7 +5,7 @@ use Rattle.lq_trees.specs.Tree.{Tree, Context}
 use Rattle.lq_solving.specs.Stores.{find_value, value, has_value, is_open, with_variable}
 use Rattle.lq_states.specs.Goals.{Frame, Proof, GoalFault, with_lists, alone, has, without, within_goals, has_each, shelve, unshelve}
 use Rattle.lq_states.specs.Frames.{brace, open_inside, nearest_brace, unbrace, same_bullet, has_frame, next_goal, resume_frame, open_frame, bullet}
-use Rattle.lq_states.specs.Kept.{times, behind_all, listed_goals, IsProof}
+use Rattle.lq_states.specs.Kept.{times, behind_all, listed_goals, AreDistinct, IsListed, IsProof}
 use Rattle.lq_states.proofs.ListLaws.{times_append, has_stands, lacks_none, times_without}
 use Rattle.lq_states.proofs.KeptLaws.{times_listed, within_is}
 
@@ -17,6 +17,15 @@ fewer_kept p focus frames shelf h f = record {
   rooted = h.rooted;
   once = λ k. omega (arith, times_listed (with_lists p focus frames shelf) k, times_listed p k, f k, h.once k);
   valueless = λ k l. h.valueless k (omega (arith, times_listed (with_lists p focus frames shelf) k, times_listed p k, f k, l));
+}
+
+fewer_listed : (p : Proof) (focus : List ℕ) (frames : List Frame) (shelf : List ℕ) → IsListed p →
+    ((m : ℕ) → times focus m + (times (behind_all frames) m + times shelf m) ≤ times p.focus m + (times (behind_all p.frames) m + times p.shelf m)) →
+    IsListed (with_lists p focus frames shelf)
+fewer_listed p focus frames shelf h f = record {
+  rooted = h.rooted;
+  once = λ k. omega (arith, times_listed (with_lists p focus frames shelf) k, times_listed p k, f k, h.once k);
+  inside = λ k l. h.inside k (omega (arith, times_listed (with_lists p focus frames shelf) k, times_listed p k, f k, l));
 }
 
 -- ---- one goal
@@ -39,7 +48,7 @@ alone_kept g A = record {
 
 -- ---- the shelf
 
-each_has : (js ks : List ℕ) (m : ℕ) → has_each js ks ≡ true → 1 ≤ times ks m → 1 ≤ times js m
+pub each_has : (js ks : List ℕ) (m : ℕ) → has_each js ks ≡ true → 1 ≤ times ks m → 1 ≤ times js m
 unfolding has_each times
 each_has js [] m e l = absurd (omega (arith, l))
 each_has js (k ∷ ks) m e l = by (has js k) refl e (eqb k m) (λ f. ap (has js) (eqb-true k m f)) l (each_has js ks m)
@@ -50,23 +59,31 @@ each_has js (k ∷ ks) m e l = by (has js k) refl e (eqb k m) (λ f. ap (has js)
     by true p f false same l i = i f l
     by false p f b same l i = absurd (grind (arith, f))
 
-pub shelve_kept : (p q : Proof) (ks : List ℕ) → IsProof p → ((m : ℕ) → times ks m ≤ 1) → shelve p ks ≡ Ok q → IsProof q
-unfolding shelve
-shelve_kept p q ks h distinct e = by (has_each p.focus ks) refl e
+-- shelving puts no goal into the lists more often
+shelved_few : (p : Proof) (ks : List ℕ) → AreDistinct ks → has_each p.focus ks ≡ true → (m : ℕ) →
+    times (without ks p.focus) m + (times (behind_all p.frames) m + times (p.shelf ++ ks) m) ≤ times p.focus m + (times (behind_all p.frames) m + times p.shelf m)
+shelved_few p ks distinct f m = go (has ks m) refl (times_without ks p.focus m)
   where
-    few : has_each p.focus ks ≡ true → (m : ℕ) → times (without ks p.focus) m + (times (behind_all p.frames) m + times (p.shelf ++ ks) m)
-        ≤ times p.focus m + (times (behind_all p.frames) m + times p.shelf m)
-    few f m = go (has ks m) refl (times_without ks p.focus m)
-      where
-        go : (b : Bool) → has ks m ≡ b → times (without ks p.focus) m ≡ elim b [ true ↦ 0 | false ↦ times p.focus m ] →
-            times (without ks p.focus) m + (times (behind_all p.frames) m + times (p.shelf ++ ks) m) ≤ times p.focus m + (times (behind_all p.frames) m + times p.shelf m)
-        go true i j = omega (arith, j, times_append p.shelf ks m, distinct m, each_has p.focus ks m f (has_stands ks m i))
-        go false i j = omega (arith, j, times_append p.shelf ks m, lacks_none ks m i)
+    go : (b : Bool) → has ks m ≡ b → times (without ks p.focus) m ≡ elim b [ true ↦ 0 | false ↦ times p.focus m ] →
+        times (without ks p.focus) m + (times (behind_all p.frames) m + times (p.shelf ++ ks) m) ≤ times p.focus m + (times (behind_all p.frames) m + times p.shelf m)
+    go true i j = omega (arith, j, times_append p.shelf ks m, distinct m, each_has p.focus ks m f (has_stands ks m i))
+    go false i j = omega (arith, j, times_append p.shelf ks m, lacks_none ks m i)
 
+-- what holds of the lists after shelving, where it is shown of those lists
+pub shelved_so : (P : Proof → Type 0) (p q : Proof) (ks : List ℕ) → (has_each p.focus ks ≡ true → P (with_lists p (without ks p.focus) p.frames (p.shelf ++ ks))) → shelve p ks ≡ Ok q → P q
+unfolding shelve
+shelved_so P p q ks h e = by (has_each p.focus ks) refl e
+  where
     by : (b : Bool) → has_each p.focus ks ≡ b →
-        elim b as (λ z. Result Proof GoalFault) [ true ↦ Ok (with_lists p (without ks p.focus) p.frames (p.shelf ++ ks)) | false ↦ Err GoalFault.nothing_focused ] ≡ Ok q → IsProof q
-    by true f i = along IsProof (grind (arith, i)) (fewer_kept p (without ks p.focus) p.frames (p.shelf ++ ks) h (few f))
+        elim b as (λ z. Result Proof GoalFault) [ true ↦ Ok (with_lists p (without ks p.focus) p.frames (p.shelf ++ ks)) | false ↦ Err GoalFault.nothing_focused ] ≡ Ok q → P q
+    by true f i = along P (grind (arith, i)) (h f)
     by false f i = absurd (grind (arith, i))
+
+pub shelve_kept : (p q : Proof) (ks : List ℕ) → IsProof p → AreDistinct ks → shelve p ks ≡ Ok q → IsProof q
+shelve_kept p q ks h distinct = shelved_so IsProof p q ks (λ f. fewer_kept p (without ks p.focus) p.frames (p.shelf ++ ks) h (shelved_few p ks distinct f))
+
+pub shelve_listed : (p q : Proof) (ks : List ℕ) → IsListed p → AreDistinct ks → shelve p ks ≡ Ok q → IsListed q
+shelve_listed p q ks h distinct = shelved_so IsListed p q ks (λ f. fewer_listed p (without ks p.focus) p.frames (p.shelf ++ ks) h (shelved_few p ks distinct f))
 
 pub unshelve_kept : (p q : Proof) → IsProof p → unshelve p ≡ Ok q → IsProof q
 unfolding unshelve times

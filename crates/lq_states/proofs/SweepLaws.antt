@@ -1,13 +1,14 @@
 -- Goals leave the lists only where one of them got a value since they were last looked through.
 use Rattle.std.specs.Prelude.{not, slice_get}
-use Rattle.std.proofs.Common.{◌≡◌, ◌≤◌, ◌<◌, ◌+◌, ◌-◌, ◌∙◌, ℕ, zero, suc, refl, sym, ap, ap₂, subst, arith, eqb, eqb-true, eq-eqb, Bool, true, false, List, [], ◌∷◌, ◌++◌, length, take, drop, Option, Some, None}
-use Rattle.lq_trees.specs.Tree.{Tree, Context}
+use Rattle.std.proofs.Common.{◌≡◌, ◌≤◌, ◌<◌, ◌+◌, ◌-◌, ◌∙◌, ℕ, zero, suc, refl, sym, ap, ap₂, arith, eqb, eq-eqb, Bool, true, false, List, [], ◌∷◌, ◌++◌, length, take, drop, Option, Some, None, Ok}
+use Rattle.lq_trees.specs.Tree.{Tree}
 use Rattle.lq_solving.specs.Stores.{Store, Variable, Assigned, count, find_value, value, has_value, is_open, with_variable, with_value, with_kind}
 use Rattle.lq_solving.proofs.Later.{Later, now, given_later}
-use Rattle.lq_states.specs.Goals.{Frame, Proof, with_lists, with_store, alone, has, without, still_open, open_frames, swept, refocused}
+use Rattle.lq_states.specs.Goals.{Frame, Proof, with_lists, with_store, has, without, still_open, open_frames, swept, refocused, has_each, shelve}
 use Rattle.lq_states.specs.Kept.{times, behind_all, listed_goals, IsListed, MayReplace, IsProof, IsSwept, oldest}
 use Rattle.lq_states.proofs.ListLaws.{times_append, times_without, has_stands, lacks_none}
 use Rattle.lq_states.proofs.KeptLaws.{times_listed, open_inside, exchanged, few}
+use Rattle.lq_states.proofs.FrameLaws.{each_has, shelved_so}
 
 -- the first of two
 abbrev pub or_then : Option Tree → Option Tree → Option Tree
@@ -154,3 +155,22 @@ swept_more p given seen v w = record { values = w.values; inside = w.inside; val
 pub swept_kind : (p : Proof) (given seen k : ℕ) (A : Tree) → IsSwept p given seen → IsSwept (with_store p (with_kind p.store k A)) given seen
 unfolding with_kind listed_goals
 swept_kind p given seen k A w = record { values = w.values; inside = w.inside; valueless = w.valueless }
+
+-- and in other lists, in which no goal stands that stood in none
+pub swept_among : (p : Proof) (given seen : ℕ) (focus : List ℕ) (frames : List Frame) (shelf : List ℕ) → IsSwept p given seen →
+    ((m : ℕ) → 1 ≤ times (listed_goals (with_lists p focus frames shelf)) m → 1 ≤ times (listed_goals p) m) → IsSwept (with_lists p focus frames shelf) given seen
+swept_among p given seen focus frames shelf w f = record { values = w.values; inside = λ k l. w.inside k (f k l); valueless = λ k l. w.valueless k (f k l) }
+
+-- so where goals are shelved
+pub swept_shelved : (p q : Proof) (given seen : ℕ) (ks : List ℕ) → IsSwept p given seen → shelve p ks ≡ Ok q → IsSwept q given seen
+swept_shelved p q given seen ks w = shelved_so (λ z. IsSwept z given seen) p q ks (λ f. swept_among p given seen (without ks p.focus) p.frames (p.shelf ++ ks) w (among f))
+  where
+    among : has_each p.focus ks ≡ true → (m : ℕ) → 1 ≤ times (listed_goals (with_lists p (without ks p.focus) p.frames (p.shelf ++ ks))) m → 1 ≤ times (listed_goals p) m
+    among f m l = go (has ks m) refl (times_without ks p.focus m)
+      where
+        now : times (listed_goals (with_lists p (without ks p.focus) p.frames (p.shelf ++ ks))) m ≡ times (without ks p.focus) m + (times (behind_all p.frames) m + times (p.shelf ++ ks) m)
+        now = times_listed (with_lists p (without ks p.focus) p.frames (p.shelf ++ ks)) m
+
+        go : (b : Bool) → has ks m ≡ b → times (without ks p.focus) m ≡ elim b [ true ↦ 0 | false ↦ times p.focus m ] → 1 ≤ times (listed_goals p) m
+        go true i j = omega (arith, times_listed p m, each_has p.focus ks m f (has_stands ks m i))
+        go false i j = omega (arith, times_listed p m, l, now, j, times_append p.shelf ks m, lacks_none ks m i)

@@ -22,6 +22,10 @@ pub record IsListed (p : Proof) : Type 0 where
   pub once : (k : ℕ) → times (listed_goals p) k ≤ 1
   pub inside : (k : ℕ) → 1 ≤ times (listed_goals p) k → k < count p.store
 
+-- no number stands twice in a list
+abbrev pub AreDistinct : List ℕ → Type 0
+AreDistinct ks = (k : ℕ) → times ks k ≤ 1
+
 -- What may take the place of goals that are in focus or on the shelf: variables without a value, none of them twice, which stand
 -- in no list but among the taken; where none is taken, none is left.
 pub record MayReplace (p : Proof) (taken left shelved : List ℕ) : Type 0 where
