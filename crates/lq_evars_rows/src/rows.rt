@@ -9,13 +9,14 @@
 //! `value N`: a variable is valued by N successors of the sort of propositions: 1. `back N`: by `chain`; when all values but one were taken
 //! back: how many variables have a value. `named N`: of N variables the last has a name: the number of the variable of that name. `kind N`:
 //! of N variables the first gets another type: whether it has that (1). `told N`: by `chain`: how many variables reduction finds valued.
+//! `full N`: N variables, and then one more: how many there are. `context N`: a variable below N hypotheses: how many its context has.
 
 ghost use Rattle.std.specs.Prelude.{◌≡◌, IfOk};
 ghost use Rattle.lq_terms.specs.Terms.{HasTerm, Grows};
 ghost use Rattle.lq_evars_rows.specs.Looks.{HasSimple, IsSort, IsKept};
 
 use crate::scenes::{add, alike, give, link, read_variable, sort, successor, twice};
-use crate::variables::{kind_row, named_row, told_row, valued};
+use crate::variables::{context_row, full_row, kind_row, named_row, told_row, valued};
 use lq_evars::{Store, StoreFault};
 use lq_terms::{Bank, NoMemory, TermId, measure};
 use std::alloc::Global;
@@ -253,6 +254,8 @@ fn in_bank(bank: &mut Bank<'_>, word: &str, many: u32) -> Result<u64, RowFault> 
     match word {
         "named" => named_row(bank, &mut store, many),
         "kind" => kind_row(bank, &mut store, many),
+        "full" => full_row(bank, &mut store, many),
+        "context" => context_row(bank, &mut store, many),
         _ => asked(bank, &mut store, word, many),
     }
 }

@@ -2,8 +2,9 @@
 
 use crate::rows::RowFault;
 use lq_evars::Store;
-use lq_terms::{Bank, Bodies, Context, NameId, Node, TermId};
+use lq_terms::{Bank, Bodies, Context, Hypothesis, NameId, NoMemory, Node, TermId};
 use lq_trees::Sort;
+use std::alloc::Global;
 
 /// One more variable without hypotheses.
 fn make(
@@ -39,6 +40,53 @@ pub(crate) fn named_row(
     match store.named(name) {
         Some(found) if found == id && has_name(store, id) => Ok(u64::from(found)),
         _ => Err(RowFault::Malformed),
+    }
+}
+
+/// So many variables, and then one more: how many there are.
+pub(crate) fn full_row(bank: &mut Bank<'_>, store: &mut Store, many: u32) -> Result<u64, RowFault> {
+    let kind = bank.make(Node::Sort(Sort::Base))?;
+    for _ in 0..many {
+        make(bank, store, kind, None)?;
+    }
+    make(bank, store, kind, None)?;
+    Ok(u64::from(store.count()))
+}
+
+/// A context of so many hypotheses.
+fn hypotheses(alloc: Global, hypothesis: Hypothesis, many: u32) -> Result<Context, NoMemory> {
+    let mut context = Context::new(alloc);
+    for _ in 0..many {
+        context.push(hypothesis)?;
+    }
+    Ok(context)
+}
+
+/// How many hypotheses the context of a variable has.
+fn context_length(store: &Store, id: u32) -> Result<u64, RowFault> {
+    if id >= store.count() {
+        return Err(RowFault::Malformed);
+    }
+    Ok(store.context(id).hypotheses().len() as u64)
+}
+
+/// A variable below so many hypotheses: how many its context has.
+pub(crate) fn context_row(
+    bank: &mut Bank<'_>,
+    store: &mut Store,
+    many: u32,
+) -> Result<u64, RowFault> {
+    let kind = bank.make(Node::Sort(Sort::Base))?;
+    let name = bank.name("x")?;
+    let hypothesis = Hypothesis {
+        name,
+        body: None,
+        kind,
+    };
+    let context = hypotheses(bank.allocator(), hypothesis, many)?;
+    match store.new_var(context, kind, None) {
+        Ok(id) => context_length(store, id),
+        Err(fault) => Err(RowFault::from(fault)),
     }
 }
 
