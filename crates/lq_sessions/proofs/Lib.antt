@@ -1,0 +1,4 @@
+pub mod GoingOn
+mod Opening
+mod Examples
+mod MoreExamples

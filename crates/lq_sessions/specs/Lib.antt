@@ -1,0 +1,11 @@
+pub mod Told
+pub mod Sessions
+pub mod Expressions
+pub mod Parallel
+pub mod Declaring
+pub mod Sentences
+pub mod Built
+pub mod Rest
+pub mod Output
+pub mod Options
+pub mod Ahead
