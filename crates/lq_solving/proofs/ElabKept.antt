@@ -1,5 +1,5 @@
 -- Elaboration keeps what holds of a store, and what it finds stands in the context.
-use Rattle.std.proofs.Common.{◌≡◌, ◌<◌, ◌+◌, ◌^◌, ◌∙◌, ℕ, suc, refl, sym, ap, ap₂, arith, Bool, true, false, ◌||◌, List, [], ◌∷◌, ◌++◌, map, length, Option, Some, None, Result, Ok, Err}
+use Rattle.std.proofs.Common.{◌≡◌, ◌≤◌, ◌<◌, ◌+◌, ◌^◌, ◌∙◌, ℕ, suc, refl, sym, ap, ap₂, arith, Bool, true, false, ◌||◌, List, [], ◌∷◌, ◌++◌, map, length, append_assoc, Option, Some, None, Result, Ok, Err}
 use Rattle.std.proofs.Common.{subst as along}
 use Rattle.std.specs.Prelude.{leb, slice_get}
 use Rattle.lq_trees.specs.declared.Fit.{Fit}
@@ -13,7 +13,7 @@ use Rattle.lq_trees.specs.Rules.{Rules}
 use Rattle.lq_calculus.specs.Contraction.{hypothesis, whnf}
 use Rattle.lq_calculus.specs.Declarations.{Env, rules_of, variables}
 use Rattle.lq_calculus.proofs.ConvSound.{Gives, gives_bind}
-use Rattle.lq_solving.specs.Stores.{Store, Variable, StoreFault, names_in, names_at, find_value, own_instance, instance_list, count, most_variables, read, read_context, read_hypothesis, named_variable, new_variable, with_variable}
+use Rattle.lq_solving.specs.Stores.{Store, Variable, Assigned, StoreFault, names_in, names_at, find_value, own_instance, instance_list, count, most_variables, read, read_context, read_hypothesis, named_variable, new_variable, with_variable, with_value}
 use Rattle.lq_solving.specs.Kept.{IsOver, Stands, OptionStands, StandBehind, IsContext, IsStore}
 use Rattle.lq_inference.specs.Inference.{infer_by}
 use Rattle.lq_solving.specs.Inference.{by_store_types, infer_open}
@@ -21,27 +21,49 @@ use Rattle.lq_solving.specs.Unification.{Answer, unify}
 use Rattle.lq_solving.specs.ElabFaults.{ElabFault, Elab, elab_fitting, carrying, store_fault, by_unify, by_store, kernel_fault, unify_fault, type_of}
 use Rattle.lq_solving.specs.Elaboration.{Site, Found, found, form_of, unified, made}
 use Rattle.lq_solving.specs.Claims.{ArePlainRules, ArePlainDeclarations}
-use Rattle.lq_solving.proofs.StoreLaws.{Keeps, more_over, more_keeps, more_store, get_end, length_one_more}
+use Rattle.lq_solving.proofs.StoreLaws.{Keeps, more_over, more_keeps, more_store, get_end, length_one_more, names_stay}
 use Rattle.lq_solving.proofs.Good.{IsGood, EachIsGood, no_name, form_good}
 use Rattle.lq_solving.proofs.InstanceLaws.{is_same}
-use Rattle.lq_solving.proofs.Later.{body_of, later_store, later_keeps, later_variables, good_read, good_stands, bodies_good}
+use Rattle.lq_solving.proofs.Later.{Later, now, given_later, body_of, later_store, later_keeps, later_variables, good_read, good_stands, bodies_good}
 use Rattle.lq_solving.proofs.UnifyForms.{stands_more}
 use Rattle.lq_solving.proofs.UnifyProved.{unify_sound, bodies_stand}
 use Rattle.lq_solving.proofs.InferKept.{IsGoodContext, infer_good}
 
 -- ---- a store that has grown
 
--- a store as the calls keep it, in which all that stood in the old one stands
+-- values that were given since
+abbrev pub Newer : Store → Store → Type 0
+Newer s s1 = (as_ : List Assigned) × (s1.values ≡ as_ ++ s.values)
+
+-- a store as the calls keep it, in which all that stood in the old one stands; its variables are there, with their contexts, and its values
 pub record Grown (s s1 : Store) : Type 0 where
   pub store : IsStore s1
   pub keeps : Keeps s s1
   pub over : (t : Tree) → IsOver s.variables t → IsOver s1.variables t
+  pub more : count s ≤ count s1
+  pub names : (k : ℕ) → k < count s → names_at s1.variables k ≡ names_at s.variables k
+  pub newer : Newer s s1
 
 pub grown_now : (s : Store) → IsStore s → Grown s s
-grown_now s i = record { store = i; keeps = λ xs t h. h; over = λ t h. h }
+grown_now s i = record { store = i; keeps = λ xs t h. h; over = λ t h. h; more = omega arith; names = λ k l. refl; newer = ([], refl) }
+
+newer_then : (s s1 s2 : Store) → Newer s s1 → Newer s1 s2 → Newer s s2
+newer_then s s1 s2 m n = (n.0 ++ m.0, n.1 ∙ ap (λ z. n.0 ++ z) m.1 ∙ sym (append_assoc n.0 m.0 s.values))
 
 pub grown_then : (s s1 s2 : Store) → Grown s s1 → Grown s1 s2 → Grown s s2
-grown_then s s1 s2 g h = record { store = h.store; keeps = λ xs t k. h.keeps xs t (g.keeps xs t k); over = λ t k. h.over t (g.over t k) }
+grown_then s s1 s2 g h = record {
+  store = h.store;
+  keeps = λ xs t k. h.keeps xs t (g.keeps xs t k);
+  over = λ t k. h.over t (g.over t k);
+  more = omega (arith, g.more, h.more);
+  names = λ k l. h.names k (omega (arith, l, g.more)) ∙ g.names k l;
+  newer = newer_then s s1 s2 g.newer h.newer;
+}
+
+later_newer : {s s1 : Store} → Later s s1 → Newer s s1
+unfolding with_value
+later_newer now = ([], refl)
+later_newer (given_later {s1} l k b may) = let q = later_newer l in (record { id = k; body = b } ∷ q.0, ap (λ z. record { id = k; body = b } ∷ z) q.1)
 
 -- ---- contexts
 
@@ -213,7 +235,14 @@ pub unified_grown : (r : Rules) → ArePlainRules r → (n : ℕ) (s s1 : Store)
     Gives (unify r n g s A B) (Some s1) → Grown s s1
 unified_grown r plain n s s1 g A B few i c a b y =
     let l = (unify_sound r plain n g s s1 A B few i (bodies_stand s g c) a b y).0 in
-    record { store = later_store l i; keeps = later_keeps l i; over = λ t o. along (λ vs. IsOver vs t) (sym (later_variables l)) o }
+    record {
+      store = later_store l i;
+      keeps = later_keeps l i;
+      over = λ t o. along (λ vs. IsOver vs t) (sym (later_variables l)) o;
+      more = along (λ vs. count s ≤ length vs) (sym (later_variables l)) (omega arith);
+      names = λ k h. ap (λ vs. names_at vs k) (later_variables l);
+      newer = later_newer l;
+    }
 
 -- found and wanted unify
 pub agreed_grown : (e : Site) → ArePlainDeclarations e.env → (g : Context) (s s1 : Store) (A B : Tree) → length g + e.bound < 10 ^ 64 → IsStore s → IsContext s g → Stands s (names_in g) A → Stands s (names_in g) B →
@@ -257,6 +286,9 @@ made_grown g s A x f i c a new y = at (leb most_variables (count s)) y
       store = more_store s v i (c, a) new;
       keeps = more_keeps s v i.values;
       over = λ t o. more_over s.variables v t o;
+      more = omega (arith, length_one_more s.variables v);
+      names = λ k l. names_stay s.variables v k l;
+      newer = ([], refl);
     }
 
     names : names_at (s.variables ++ v ∷ []) (count s) ≡ names_in g
