@@ -3,6 +3,7 @@ pub mod RowsSettled
 pub mod PrimsSettled
 pub mod RulesSettled
 pub mod BetaKept
+pub mod NumberLists
 pub mod Playing
 pub mod Examples
 pub mod MatchExamples
