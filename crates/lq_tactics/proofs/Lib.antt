@@ -4,6 +4,7 @@ pub mod PrimsSettled
 pub mod RulesSettled
 pub mod BetaKept
 pub mod NumberLists
+pub mod RowsKept
 pub mod Playing
 pub mod Examples
 pub mod MatchExamples

@@ -1,0 +1,177 @@
+-- What the rows of both tables have in common keeps what holds of a store and of a goal.
+use Rattle.std.proofs.Common.{◌≡◌, ◌≤◌, ◌<◌, ◌+◌, ◌^◌, ◌∙◌, ℕ, zero, suc, refl, sym, ap, ap₂, arith, eqb, eqb-true, Bool, true, false, not, ◌||◌, List, [], ◌∷◌, ◌++◌, length, Option, Some, None, Result, Ok, Err}
+use Rattle.std.proofs.Common.{subst as along}
+use Rattle.std.specs.Prelude.{leb, slice_get}
+use Rattle.lq_trees.specs.Tree.{Name, Tree, Context, value_of}
+use Rattle.lq_trees.specs.Fresh.{is_listed}
+use Rattle.lq_trees.specs.Index.{Within}
+use Rattle.lq_trees.specs.Hypotheses.{HoldsOnly}
+use Rattle.lq_trees.specs.Ticks.{Paid, gives, fails, cut, ◌>>=◌}
+use Rattle.lq_calculus.specs.Contraction.{whnf, beta_normal}
+use Rattle.lq_calculus.specs.Declarations.{Env}
+use Rattle.lq_calculus.proofs.ConvSound.{Gives, gives_bind}
+use Rattle.lq_solving.specs.Occurs.{holds_variable}
+use Rattle.lq_solving.specs.Stores.{Store, Variable, Assigned, StoreFault, names_in, names_at, find_value, value, has_value, is_open, count, most_variables, read, read_context, size_fault, new_variable, with_variable, with_value, with_kind, read_too_large}
+use Rattle.lq_solving.specs.Kept.{IsOver, IsValue, Sound, Stands, StandsIn, IsContext, IsVariable, IsStore}
+use Rattle.lq_solving.specs.Claims.{ArePlainDeclarations}
+use Rattle.lq_solving.specs.ElabFaults.{ElabFault, elab_fitting, by_store}
+use Rattle.lq_solving.specs.Elaboration.{Givens, given_term, Found, found, made}
+use Rattle.lq_solving.proofs.StoreLaws.{MayBeGiven, given_store, given_keeps, get_end, length_one_more}
+use Rattle.lq_solving.proofs.KindLaws.{length_kind, names_kind, kind_over, kind_keeps, kind_store, all_get}
+use Rattle.lq_solving.proofs.DoneLaws.{done_reads, done_leads}
+use Rattle.lq_solving.proofs.Good.{IsGood, good_done, good_over, good_within, good_holds, form_good}
+use Rattle.lq_solving.proofs.Later.{good_read, good_stands, bodies_good}
+use Rattle.lq_solving.proofs.UnifyProved.{bodies_stand}
+use Rattle.lq_solving.proofs.ElabKept.{Grown, grown_then, by_gives, elab_fits, made_grown}
+use Rattle.lq_states.specs.Kept.{times}
+use Rattle.lq_states.proofs.KeptLaws.{open_inside}
+use Rattle.lq_tactics.specs.Rows.{RowFault, Doing, by_elab, by_store_call, store_work, Scene, Done, Step, rules, needed, needed_form, head_of, scene_of, scene, new_goal, as_goal, as_goals, goal_term, given_to, ended, then_on, then_next, stays}
+use Rattle.lq_tactics.proofs.BetaKept.{beta_normal_good}
+
+-- ---- a goal, what a row reaches, and what it did
+
+-- Ltac values are terms over the store
+abbrev pub AreGiven : Store → Givens → Type 0
+AreGiven s vs = (x : Name) (t : Tree) → value_of vs x ≡ Some (given_term t) → IsOver s.variables t × Within 0 t
+
+-- where a row may work: the goal has no value, and its context and type stand
+pub record IsScene (c : Scene) : Type 0 where
+  pub plain : ArePlainDeclarations c.env
+  pub store : IsStore c.store
+  pub context : IsContext c.store c.context
+  pub kind : StandsIn c.store c.context c.kind
+  pub inside : c.goal < count c.store
+  pub names : names_at c.store.variables c.goal ≡ names_in c.context
+  pub values : AreGiven c.store c.values
+
+-- goals that were made since: variables without a value, none of them twice
+pub record AreNew (s s1 : Store) (ks : List ℕ) : Type 0 where
+  pub once : (k : ℕ) → times ks k ≤ 1
+  pub inside : (k : ℕ) → 1 ≤ times ks k → k < count s1
+  pub valueless : (k : ℕ) → 1 ≤ times ks k → has_value s1 k ≡ false
+  pub new : (k : ℕ) → 1 ≤ times ks k → count s ≤ k
+
+-- what a row reaches before the goal gets its body, which stands in the goal's context
+pub record IsReached (c : Scene) (d : Done) : Type 0 where
+  pub grown : Grown c.store d.store
+  pub body : StandsIn d.store c.context d.body
+  pub goals : AreNew c.store d.store d.goals
+
+-- what a row did: the goals that are left are new ones, or the goal itself
+pub record IsStep (c : Scene) (st : Step) : Type 0 where
+  pub grown : Grown c.store st.store
+  pub once : (k : ℕ) → times st.goals k ≤ 1
+  pub inside : (k : ℕ) → 1 ≤ times st.goals k → k < count st.store
+  pub valueless : (k : ℕ) → 1 ≤ times st.goals k → has_value st.store k ≡ false
+  pub new : (k : ℕ) → 1 ≤ times st.goals k → k < count c.store → k ≡ c.goal
+
+-- ---- terms that are needed
+
+pub needed_is : (t T : Tree) → Gives (needed t) T → t ≡ T
+unfolding needed
+needed_is t T y = at (size_fault t) y
+  where
+    at : (o : Option StoreFault) → Gives {F = RowFault} (elim o as (λ z. Doing Tree) [ None ↦ gives t | Some f ↦ fails (by_store_call f) ]) T → t ≡ T
+    at None z = z
+    at (Some f) z = absurd z
+
+pub form_is : (t T : Tree) → Gives (needed_form t) T → t ≡ T
+form_is t T y = elab_fits t T (by_gives by_elab (elab_fitting t) T y)
+
+module _ (s : Store) (i : IsStore s) (xs : List Name) where
+  pub read_stands : (t : Tree) → Stands s xs t → Stands s xs (read s t)
+  read_stands t h = good_stands s i s.values xs (read s t) (good_read s i xs t h)
+
+  -- the beta normal form of a term as read
+  pub beta_stands : (n : ℕ) (t T : Tree) → Stands s xs t → Gives (needed (read s t) >>= beta_normal n >>= needed_form) T → Stands s xs T
+  beta_stands n t T h y =
+      let a = gives_bind (needed (read s t) >>= beta_normal n) needed_form T y in
+      let b = gives_bind (needed (read s t)) (beta_normal n) a.0 a.1 in
+      along (Stands s xs) (form_is a.0 T a.2)
+      (good_stands s i s.values xs a.0
+      (beta_normal_good s.variables s.values xs RowFault n 0 b.0 a.0 (along (IsGood s.variables s.values xs 0) (needed_is (read s t) b.0 b.1) (good_read s i xs t h)) b.2))
+
+-- a weak head form in the goal's context
+pub head_stands : (c : Scene) → ArePlainDeclarations c.env → (s : Store) → IsStore s → IsContext s c.context → (t T : Tree) → StandsIn s c.context t → Gives (head_of c s t) T → StandsIn s c.context T
+unfolding head_of
+head_stands c plain s i g t T h y =
+    let a = gives_bind (whnf (rules c) (read_context s c.context) c.bound (read s t)) needed_form T y in
+    along (StandsIn s c.context) (form_is a.0 T a.2)
+    (good_stands s i s.values (names_in c.context) a.0
+    (form_good s.variables s.values (names_in c.context) RowFault (rules c) plain.rules (read_context s c.context)
+    (bodies_good (rules c) s i c.context (bodies_stand s c.context g)) c.bound (read s t) a.0 (good_read s i (names_in c.context) t h) a.1))
+
+-- ---- variables and values
+
+-- a variable that is not there yet has no value
+unborn : (vs : List Variable) (as_ : List Assigned) → Sound vs as_ → (k : ℕ) → length vs ≤ k → find_value as_ k ≡ None
+unfolding find_value
+unborn vs [] h k l = refl
+unborn vs (a ∷ older) h k l = at (eqb a.id k) refl (unborn vs older h.0 k l)
+  where
+    at : (b : Bool) → eqb a.id k ≡ b → find_value older k ≡ None → elim b as (λ z. Option Tree) [ true ↦ Some a.body | false ↦ find_value older k ] ≡ None
+    at true e i = absurd (omega (arith, eqb-true a.id k e, h.1.inside, l))
+    at false e i = i
+
+pub unborn_valueless : (s : Store) → IsStore s → (k : ℕ) → count s ≤ k → has_value s k ≡ false
+unfolding has_value value
+unborn_valueless s i k l = ap (λ o. elim o as (λ z. Bool) [ Some b ↦ true | None ↦ false ]) (unborn s.variables s.values i.values k l)
+
+-- the same values
+pub same_values : (s s1 : Store) → s1.values ≡ s.values → (k : ℕ) → has_value s1 k ≡ has_value s k
+unfolding has_value value
+same_values s s1 e k = ap (λ as_. elim (find_value as_ k) as (λ z. Bool) [ Some b ↦ true | None ↦ false ]) e
+
+-- a value for another variable
+pub other_value : (s : Store) (j : ℕ) (b : Tree) (k : ℕ) → (j ≡ k → ⊥) → has_value (with_value s j b) k ≡ has_value s k
+unfolding has_value value with_value find_value
+other_value s j b k h = at (eqb j k) refl
+  where
+    at : (o : Bool) → eqb j k ≡ o →
+        elim (elim o as (λ z. Option Tree) [ true ↦ Some b | false ↦ find_value s.values k ]) as (λ z. Bool) [ Some c ↦ true | None ↦ false ]
+        ≡ elim (find_value s.values k) as (λ z. Bool) [ Some c ↦ true | None ↦ false ]
+    at true e = absurd (h (eqb-true j k e))
+    at false e = refl
+
+no_value : (s : Store) (k : ℕ) → has_value s k ≡ false → find_value s.values k ≡ None
+unfolding has_value value
+no_value s k e = at (find_value s.values k) e
+  where
+    at : (o : Option Tree) → elim o as (λ z. Bool) [ Some b ↦ true | None ↦ false ] ≡ false → o ≡ None
+    at None f = refl
+    at (Some b) f = absurd (grind (arith, f))
+
+-- ---- new goals
+
+-- a variable that was made in a context
+pub record IsMade (s : Store) (g : Context) (r : Store × ℕ) : Type 0 where
+  pub grown : Grown s r.0
+  pub term : Stands r.0 (names_in g) (goal_term r.1 g)
+  pub number : r.1 ≡ count s
+  pub many : count r.0 ≡ suc (count s)
+  pub values : r.0.values ≡ s.values
+  pub there : (v : Variable) × (slice_get r.0.variables r.1 ≡ Some v) × (v.context ≡ g)
+
+pub variable_made : (s : Store) (g : Context) (A : Tree) (r : Store × ℕ) → IsStore s → IsContext s g → Stands s (names_in g) A → new_variable s (record { context = g; kind = A; name = None }) ≡ Ok r → IsMade s g r
+unfolding new_variable made by_store ◌>>=◌ with_variable
+variable_made s g A r i c h e = at (leb most_variables (count s)) refl e
+  where
+    v : Variable
+    v = record { context = g; kind = A; name = None }
+
+    at : (b : Bool) → leb most_variables (count s) ≡ b → elim b as (λ z. Result (Store × ℕ) StoreFault) [ true ↦ Err StoreFault.store_full | false ↦ Ok (with_variable s v, count s) ] ≡ Ok r → IsMade s g r
+    at true p f = absurd (grind (arith, f))
+    at false p f =
+        along (IsMade s g) (ap (λ o. elim o as (λ z. Store × ℕ) [ Ok q ↦ q | Err z ↦ r ]) f)
+        (let q = made_grown g s A None (found (with_variable s v) (goal_term (count s) g) A) i c h (λ y w. absurd (grind (arith, w))) (made_is p) in
+        record {
+          grown = q.0;
+          term = q.1;
+          number = refl;
+          many = length_one_more s.variables v;
+          values = refl;
+          there = (v, get_end s.variables v, refl);
+        })
+      where
+        made_is : leb most_variables (count s) ≡ false → Gives (made g s A None) (found (with_variable s v) (goal_term (count s) g) A)
+        made_is q = along (λ b. Gives {F = ElabFault} (by_store (elim b as (λ z. Result (Store × ℕ) StoreFault) [ true ↦ Err StoreFault.store_full | false ↦ Ok (with_variable s v, count s) ]) >>= λ z. gives (found z.0 (goal_term z.1 g) A)) (found (with_variable s v) (goal_term (count s) g) A)) (sym q) refl
