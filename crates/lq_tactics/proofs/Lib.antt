@@ -5,6 +5,7 @@ pub mod RulesSettled
 pub mod BetaKept
 pub mod NumberLists
 pub mod RowsKept
+pub mod StepsKept
 pub mod Playing
 pub mod Examples
 pub mod MatchExamples

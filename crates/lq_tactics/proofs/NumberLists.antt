@@ -1,6 +1,6 @@
 -- How often a number stands in the lists that rows make: variables that were made, those without a value, those that nothing depends on.
-use Rattle.std.proofs.Common.{◌≡◌, ◌≤◌, ◌<◌, ◌+◌, ◌-◌, ℕ, zero, suc, refl, sym, ◌∙◌, ap, arith, eqb, eqb-true, Bool, true, false, List, [], ◌∷◌, ◌++◌, length}
-use Rattle.lq_solving.specs.Stores.{Store, count, has_value, is_open}
+use Rattle.std.proofs.Common.{◌≡◌, ◌≤◌, ◌<◌, ◌+◌, ◌-◌, ℕ, zero, suc, refl, sym, ◌∙◌, ap, arith, eqb, eqb-true, Bool, true, false, List, [], ◌∷◌}
+use Rattle.lq_solving.specs.Stores.{Store, count, is_open}
 use Rattle.lq_solving.specs.Elaboration.{numbers, made_between}
 use Rattle.lq_states.specs.Goals.{has, without}
 use Rattle.lq_states.specs.Kept.{times}
