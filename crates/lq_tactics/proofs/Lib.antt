@@ -6,6 +6,7 @@ pub mod BetaKept
 pub mod NumberLists
 pub mod RowsKept
 pub mod StepsKept
+pub mod IntroKept
 pub mod Playing
 pub mod Examples
 pub mod MatchExamples

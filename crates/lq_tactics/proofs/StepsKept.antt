@@ -29,7 +29,7 @@ scene_valueless s k e = (open_inside s k e, at (slice_get s.variables k) (has_va
     at (Some v) true f = absurd (grind (arith, f))
 
 -- how often the one number of a list stands there
-one_once : (j k : ℕ) → times (j ∷ []) k ≤ 1
+pub one_once : (j k : ℕ) → times (j ∷ []) k ≤ 1
 unfolding times
 one_once j k = at (eqb j k)
   where
@@ -37,7 +37,7 @@ one_once j k = at (eqb j k)
     at true = omega arith
     at false = omega arith
 
-one_is : (j k : ℕ) → 1 ≤ times (j ∷ []) k → j ≡ k
+pub one_is : (j k : ℕ) → 1 ≤ times (j ∷ []) k → j ≡ k
 unfolding times
 one_is j k l = at (eqb j k) refl l
   where
@@ -57,7 +57,7 @@ stays_kept c h e = record {
 
 -- ---- a row on the goal that another has left
 
-first_stands : (k : ℕ) (ks : List ℕ) → 1 ≤ times (k ∷ ks) k
+pub first_stands : (k : ℕ) (ks : List ℕ) → 1 ≤ times (k ∷ ks) k
 unfolding times
 first_stands k ks = at (eqb k k) (eq-eqb k k refl)
   where
