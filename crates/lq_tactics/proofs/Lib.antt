@@ -7,6 +7,7 @@ pub mod NumberLists
 pub mod RowsKept
 pub mod StepsKept
 pub mod IntroKept
+pub mod ApplyKept
 pub mod Playing
 pub mod Examples
 pub mod MatchExamples

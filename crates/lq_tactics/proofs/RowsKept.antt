@@ -174,7 +174,7 @@ variable_made s g A r i c h e = at (leb most_variables (count s)) refl e
         made_is : leb most_variables (count s) ≡ false → Gives (made g s A None) (found (with_variable s v) (goal_term (count s) g) A)
         made_is q = along (λ b. Gives {F = ElabFault} (by_store (elim b as (λ z. Result (Store × ℕ) StoreFault) [ true ↦ Err StoreFault.store_full | false ↦ Ok (with_variable s v, count s) ]) >>= λ z. gives (found z.0 (goal_term z.1 g) A)) (found (with_variable s v) (goal_term (count s) g) A)) (sym q) refl
 
-store_ok : {A : Type 0} (r : Result A StoreFault) (a : A) → Gives (store_work r) a → r ≡ Ok a
+pub store_ok : {A : Type 0} (r : Result A StoreFault) (a : A) → Gives (store_work r) a → r ≡ Ok a
 unfolding store_work
 store_ok (Ok b) a y = ap Ok y
 store_ok (Err f) a y = absurd y
