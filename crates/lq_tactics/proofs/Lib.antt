@@ -8,6 +8,7 @@ pub mod RowsKept
 pub mod StepsKept
 pub mod IntroKept
 pub mod ApplyKept
+pub mod ConstructorsKept
 pub mod Playing
 pub mod Examples
 pub mod MatchExamples

@@ -89,15 +89,18 @@ module _ (s : Store) (i : IsStore s) (xs : List Name) where
       (good_stands s i s.values xs a.0
       (beta_normal_good s.variables s.values xs RowFault n 0 b.0 a.0 (along (IsGood s.variables s.values xs 0) (needed_is (read s t) b.0 b.1) (good_read s i xs t h)) b.2))
 
--- a weak head form in the goal's context
-pub head_stands : (c : Scene) → ArePlainDeclarations c.env → (s : Store) → IsStore s → IsContext s c.context → (t T : Tree) → StandsIn s c.context t → Gives (head_of c s t) T → StandsIn s c.context T
+-- a weak head form in the goal's context: it is as read, and stands
+pub head_good : (c : Scene) → ArePlainDeclarations c.env → (s : Store) → IsStore s → IsContext s c.context → (t T : Tree) → StandsIn s c.context t → Gives (head_of c s t) T →
+    IsGood s.variables s.values (names_in c.context) 0 T
 unfolding head_of
-head_stands c plain s i g t T h y =
+head_good c plain s i g t T h y =
     let a = gives_bind (whnf (rules c) (read_context s c.context) c.bound (read s t)) needed_form T y in
-    along (StandsIn s c.context) (form_is a.0 T a.2)
-    (good_stands s i s.values (names_in c.context) a.0
+    along (IsGood s.variables s.values (names_in c.context) 0) (form_is a.0 T a.2)
     (form_good s.variables s.values (names_in c.context) RowFault (rules c) plain.rules (read_context s c.context)
-    (bodies_good (rules c) s i c.context (bodies_stand s c.context g)) c.bound (read s t) a.0 (good_read s i (names_in c.context) t h) a.1))
+    (bodies_good (rules c) s i c.context (bodies_stand s c.context g)) c.bound (read s t) a.0 (good_read s i (names_in c.context) t h) a.1)
+
+pub head_stands : (c : Scene) → ArePlainDeclarations c.env → (s : Store) → IsStore s → IsContext s c.context → (t T : Tree) → StandsIn s c.context t → Gives (head_of c s t) T → StandsIn s c.context T
+head_stands c plain s i g t T h y = good_stands s i s.values (names_in c.context) T (head_good c plain s i g t T h y)
 
 -- ---- variables and values
 
