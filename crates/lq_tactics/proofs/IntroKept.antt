@@ -101,6 +101,9 @@ unused_is c z x y = at (is_listed (names_in c.context) z) refl y
     at true e w = absurd w
     at false e w = (w, along (λ v. is_listed (names_in c.context) v ≡ false) w e)
 
+pub unused_new : (c : Scene) (z x : Name) → Gives (unused c z) x → is_listed (names_in c.context) z ≡ false
+unused_new c z x y = let q = unused_is c z x y in along (λ v. is_listed (names_in c.context) v ≡ false) (sym q.0) q.1
+
 -- the parts of a local definition
 let_parts : (s : Store) (xs : List Name) (x : Name) (v A B : Tree) → Stands s xs (Let x v A B) → Stands s xs v × Stands s xs A × StandsUnder s xs 1 B
 unfolding read

@@ -9,6 +9,7 @@ pub mod StepsKept
 pub mod IntroKept
 pub mod ApplyKept
 pub mod ConstructorsKept
+pub mod PrimsKept
 pub mod Playing
 pub mod Examples
 pub mod MatchExamples
