@@ -1,0 +1,2 @@
+//! Elaboration, and the types of terms over a store.
+#![tactic(auto)]
