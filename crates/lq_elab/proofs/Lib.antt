@@ -1,1 +1,3 @@
 pub mod TypingLaws
+pub mod ArgumentLaws
+pub mod CallLaws
