@@ -1,3 +1,4 @@
 pub mod TypingLaws
 pub mod ArgumentLaws
 pub mod CallLaws
+pub mod KeptLaws
