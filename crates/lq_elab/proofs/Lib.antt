@@ -2,3 +2,4 @@ pub mod TypingLaws
 pub mod ArgumentLaws
 pub mod CallLaws
 pub mod KeptLaws
+pub mod StandingLaws
