@@ -23,7 +23,7 @@ use Rattle.lq_elab.proofs.TypingLaws.{ends_done, asks_product, asks_function, as
 -- ---- contexts and binders as read
 
 module _ (s : Store) where
-  names_read : (g : Context) → names_in (read_context s g) ≡ names_in g
+  pub names_read : (g : Context) → names_in (read_context s g) ≡ names_in g
   unfolding read_context read_hypothesis
   names_read [] = refl
   names_read (h ∷ g) = ap (λ xs. h.name ∷ xs) (names_read g)

@@ -3,3 +3,4 @@ pub mod ArgumentLaws
 pub mod CallLaws
 pub mod KeptLaws
 pub mod StandingLaws
+pub mod EndLaws
