@@ -1,8 +1,8 @@
 -- Terms applied to a goal keep what holds.
-use Rattle.std.proofs.Common.{◌≡◌, ◌≤◌, ◌<◌, ◌+◌, ◌^◌, ◌∙◌, ℕ, zero, suc, refl, arith, eqb, Bool, true, false, List, [], ◌∷◌, ◌++◌, length, Option, Some, None}
+use Rattle.std.proofs.Common.{◌≡◌, ◌≤◌, ◌<◌, ◌+◌, ◌^◌, ◌∙◌, ℕ, zero, suc, refl, ap, codes, arith, eqb, Bool, true, false, List, [], ◌∷◌, ◌++◌, length, Option, Some, None}
 use Rattle.std.proofs.Common.{subst as along}
 use Rattle.std.specs.List.{AllByRecursion}
-use Rattle.lq_trees.specs.Tree.{Name, Tree, Context}
+use Rattle.lq_trees.specs.Tree.{Name, Tree, Context, same_name}
 use Rattle.lq_trees.specs.Tree.Tree.{Rel, Var, Sort, Prod, Lam, Let, App, Const, Ind, Ctor, Elim, Evar}
 use Rattle.lq_trees.specs.Ticks.{gives}
 use Rattle.lq_calculus.specs.Contraction.{apply}
@@ -15,6 +15,9 @@ use Rattle.lq_solving.specs.ElabFaults.{by_unify, unify_fault}
 use Rattle.lq_solving.specs.Elaboration.{Found, elaborate_call}
 use Rattle.lq_solving.proofs.StoreLaws.{context_keeps}
 use Rattle.lq_solving.proofs.StandsLaws.{app_stands, domain_stands, rest_stands, subst_stands}
+use Rattle.lq_solving.proofs.Moving.{AllHave}
+use Rattle.lq_solving.proofs.Good.{IsGood}
+use Rattle.lq_solving.proofs.Later.{good_stands}
 use Rattle.lq_solving.proofs.ElabKept.{Grown, grown_now, grown_then, by_gives, unified_grown}
 use Rattle.lq_solving.proofs.ElabStands.{IsSite, Finds, deep, call_finds}
 use Rattle.lq_states.specs.Goals.{without}
@@ -22,8 +25,9 @@ use Rattle.lq_states.specs.Kept.{times}
 use Rattle.lq_states.proofs.ListLaws.{times_append}
 use Rattle.lq_tactics.specs.Rows.{RowFault, Doing, by_elab, store_work, Scene, Done, site, rules, elab_work, needed, told, head_of, as_goals, goal_term, open_of, made_open, term_of}
 use Rattle.lq_tactics.specs.Applying.{Opening, Openings, not_opened, premise_more, opened_more, open_type, most_premises, opened_type, first_opening, premise_terms, dependent_in, determined, applied_to, applied_or, apply_found, do_apply}
+use Rattle.lq_tactics.specs.Primitives.{equality_of}
 use Rattle.lq_tactics.proofs.NumberLists.{IsAmong, filtered_among, filtered_keeps, open_filters, without_among}
-use Rattle.lq_tactics.proofs.RowsKept.{IsScene, AreNew, IsReached, IsMade, needed_is, read_stands, head_stands, same_values, unborn_valueless, variable_made, store_ok, all_retyped}
+use Rattle.lq_tactics.proofs.RowsKept.{IsScene, AreNew, IsReached, IsMade, needed_is, read_stands, head_good, same_values, unborn_valueless, variable_made, store_ok, all_retyped}
 use Rattle.lq_tactics.proofs.StepsKept.{scene_valueless, one_once, one_is, first_stands}
 
 -- room for the names that elaboration and unification make
@@ -44,6 +48,39 @@ unfolding apply
 apply_stands s i xs f [] h k = h
 apply_stands s i xs f (t ∷ ts) h k = apply_stands s i xs (App f t) ts (app_stands s i xs f t h k.0) k.1
 
+-- ---- equalities
+
+module _ (s : Store) (i : IsStore s) (xs : List Name) where
+  -- the sides of an equality as read
+  pub sides_stand : (T : Tree) (args : List Tree) (e : Tree × Tree × Tree) → AllHave (IsGood s.variables s.values xs 0) args → equality_of (T, args) ≡ Some e →
+      Stands s xs e.0 × Stands s xs e.1 × Stands s xs e.2
+  unfolding equality_of
+  sides_stand (Ind x) (A ∷ a ∷ b ∷ []) e h q = at (same_name x (codes "eq")) q
+    where
+      at : (o : Bool) → elim o as (λ z. Option (Tree × Tree × Tree)) [ true ↦ Some (A, a, b) | false ↦ None ] ≡ Some e → Stands s xs e.0 × Stands s xs e.1 × Stands s xs e.2
+      at false p = absurd (grind (arith, p))
+      at true p =
+          along (λ z. Stands s xs z.0 × Stands s xs z.1 × Stands s xs z.2) (ap (λ o. elim o as (λ z. Tree × Tree × Tree) [ Some z ↦ z | None ↦ e ]) p) (
+            good_stands s i s.values xs A h.0,
+            good_stands s i s.values xs a h.1.0,
+            good_stands s i s.values xs b h.1.1.0,
+          )
+  sides_stand (Ind x) [] e h q = absurd (grind (arith, q))
+  sides_stand (Ind x) (A ∷ []) e h q = absurd (grind (arith, q))
+  sides_stand (Ind x) (A ∷ a ∷ []) e h q = absurd (grind (arith, q))
+  sides_stand (Ind x) (A ∷ a ∷ b ∷ t ∷ ts) e h q = absurd (grind (arith, q))
+  sides_stand (Rel x) args e h q = absurd (grind (arith, q))
+  sides_stand (Var x) args e h q = absurd (grind (arith, q))
+  sides_stand (Sort x) args e h q = absurd (grind (arith, q))
+  sides_stand (Prod x A B) args e h q = absurd (grind (arith, q))
+  sides_stand (Lam x A B) args e h q = absurd (grind (arith, q))
+  sides_stand (Let x v A B) args e h q = absurd (grind (arith, q))
+  sides_stand (App f a) args e h q = absurd (grind (arith, q))
+  sides_stand (Const x) args e h q = absurd (grind (arith, q))
+  sides_stand (Ctor x k) args e h q = absurd (grind (arith, q))
+  sides_stand (Elim x u) args e h q = absurd (grind (arith, q))
+  sides_stand (Evar k ts) args e h q = absurd (grind (arith, q))
+
 -- ---- a type opened into premises
 
 -- a term applied to premises: made variables, in a store that has grown from the one of the term
@@ -53,7 +90,7 @@ pub record IsOpening (g : Context) (s : Store) (o : Opening) : Type 0 where
   pub premises : AreNew s o.store o.premises
   pub terms : (k : ℕ) → 1 ≤ times o.premises k → StandsIn o.store g (goal_term k g)
 
-not_opened_is : (g : Context) (f : Found) → IsStore f.store → StandsIn f.store g f.kind → IsOpening g f.store (not_opened f)
+pub not_opened_is : (g : Context) (f : Found) → IsStore f.store → StandsIn f.store g f.kind → IsOpening g f.store (not_opened f)
 unfolding times
 not_opened_is g f i h = record {
   grown = grown_now f.store i;
@@ -100,28 +137,33 @@ premise_opening c s o p x A B g h k y =
         none zero q = omega (arith, e, q, times_append o.premises (r.1 ∷ []) j, h.premises.once j)
         none (suc i) q = absurd (omega (arith, one_is r.1 j (omega (arith, q)), h.premises.inside j (omega (arith, e)), m.number))
 
+-- the weak head form in which the type ends is as read, and stands
+abbrev pub EndsIn : Context → List Opening → Tree → Type 0
+EndsIn g [] t = Unit {0}
+EndsIn g (o ∷ os) t = IsGood o.store.variables o.store.values (names_in g) 0 t
+
 -- the openings, and the weak head form in which the type ends
 abbrev pub AreOpenings : Context → Store → Openings → Type 0
-AreOpenings g s p = AllByRecursion (IsOpening g s) p.0
+AreOpenings g s p = AllByRecursion (IsOpening g s) p.0 × EndsIn g p.0 p.1
 
 module _ (c : Scene) (s : IsScene c) (base : Store) (context : IsContext base c.context) where
   more_opened : (go : Opening → List Opening → Doing Openings) (o : Opening) (os : List Opening) (T : Tree) (p : Openings) →
       ((q : Opening) (qs : List Opening) → IsOpening c.context base q → AllByRecursion (IsOpening c.context base) qs → Gives (go q qs) p → AreOpenings c.context base p) →
-      IsOpening c.context base o → AllByRecursion (IsOpening c.context base) os → StandsIn o.store c.context T → Gives (opened_more c go o os T) p → AreOpenings c.context base p
+      IsOpening c.context base o → AllByRecursion (IsOpening c.context base) os → IsGood o.store.variables o.store.values (names_in c.context) 0 T → Gives (opened_more c go o os T) p → AreOpenings c.context base p
   unfolding opened_more
   more_opened go o os (Prod x A B) p f h k t y =
-      let q = gives_bind (premise_more c o x A B) _ p y in f q.0 (o ∷ os) (premise_opening c base o q.0 x A B context h t q.1) (h, k) q.2
-  more_opened go o os (Rel x) p f h k t y = along (AreOpenings c.context base) y (h, k)
-  more_opened go o os (Var x) p f h k t y = along (AreOpenings c.context base) y (h, k)
-  more_opened go o os (Sort x) p f h k t y = along (AreOpenings c.context base) y (h, k)
-  more_opened go o os (Lam x A u) p f h k t y = along (AreOpenings c.context base) y (h, k)
-  more_opened go o os (Let x v A u) p f h k t y = along (AreOpenings c.context base) y (h, k)
-  more_opened go o os (App u v) p f h k t y = along (AreOpenings c.context base) y (h, k)
-  more_opened go o os (Const x) p f h k t y = along (AreOpenings c.context base) y (h, k)
-  more_opened go o os (Ind x) p f h k t y = along (AreOpenings c.context base) y (h, k)
-  more_opened go o os (Ctor x j) p f h k t y = along (AreOpenings c.context base) y (h, k)
-  more_opened go o os (Elim x u) p f h k t y = along (AreOpenings c.context base) y (h, k)
-  more_opened go o os (Evar j ts) p f h k t y = along (AreOpenings c.context base) y (h, k)
+      let q = gives_bind (premise_more c o x A B) _ p y in f q.0 (o ∷ os) (premise_opening c base o q.0 x A B context h (good_stands o.store h.grown.store o.store.values (names_in c.context) (Prod x A B) t) q.1) (h, k) q.2
+  more_opened go o os (Rel x) p f h k t y = along (AreOpenings c.context base) y ((h, k), t)
+  more_opened go o os (Var x) p f h k t y = along (AreOpenings c.context base) y ((h, k), t)
+  more_opened go o os (Sort x) p f h k t y = along (AreOpenings c.context base) y ((h, k), t)
+  more_opened go o os (Lam x A u) p f h k t y = along (AreOpenings c.context base) y ((h, k), t)
+  more_opened go o os (Let x v A u) p f h k t y = along (AreOpenings c.context base) y ((h, k), t)
+  more_opened go o os (App u v) p f h k t y = along (AreOpenings c.context base) y ((h, k), t)
+  more_opened go o os (Const x) p f h k t y = along (AreOpenings c.context base) y ((h, k), t)
+  more_opened go o os (Ind x) p f h k t y = along (AreOpenings c.context base) y ((h, k), t)
+  more_opened go o os (Ctor x j) p f h k t y = along (AreOpenings c.context base) y ((h, k), t)
+  more_opened go o os (Elim x u) p f h k t y = along (AreOpenings c.context base) y ((h, k), t)
+  more_opened go o os (Evar j ts) p f h k t y = along (AreOpenings c.context base) y ((h, k), t)
 
   pub type_opened : (m : ℕ) (o : Opening) (os : List Opening) (p : Openings) → IsOpening c.context base o → AllByRecursion (IsOpening c.context base) os → Gives (open_type c m o os) p → AreOpenings c.context base p
   unfolding open_type
@@ -129,7 +171,7 @@ module _ (c : Scene) (s : IsScene c) (base : Store) (context : IsContext base c.
   type_opened (suc m) o os p h k y =
       let T = gives_bind (head_of c o.store o.rest) _ p y in
       more_opened (open_type c m) o os T.0 p (λ q qs a b z. type_opened m q qs p a b z) h k
-      (head_stands c s.plain o.store h.grown.store (context_keeps base o.store h.grown.keeps [] c.context context) o.rest T.0 h.rest T.1) T.2
+      (head_good c s.plain o.store h.grown.store (context_keeps base o.store h.grown.keeps [] c.context context) o.rest T.0 h.rest T.1) T.2
 
   -- ---- the opening whose rest unifies
 
@@ -165,7 +207,7 @@ told_none (t ∷ ts) e a y = let q = gives_bind (needed t) _ a y in told_none ts
 -- ---- the end
 
 -- a list of variables, each of which stands
-all_terms : (P : ℕ → Type 0) (ks : List ℕ) → ((k : ℕ) → 1 ≤ times ks k → P k) → AllByRecursion P ks
+pub all_terms : (P : ℕ → Type 0) (ks : List ℕ) → ((k : ℕ) → 1 ≤ times ks k → P k) → AllByRecursion P ks
 unfolding times
 all_terms P [] f = tt
 all_terms P (k ∷ ks) f = (f k (first_stands k ks), all_terms P ks (λ j l. f j (there j (eqb k j) l)))
@@ -174,13 +216,13 @@ all_terms P (k ∷ ks) f = (f k (first_stands k ks), all_terms P ks (λ j l. f j
     there j true l = omega (arith, l)
     there j false l = l
 
-premises_stand : (c : Scene) (s : Store) (ks : List ℕ) → AllByRecursion (λ k. StandsIn s c.context (goal_term k c.context)) ks → AllByRecursion (StandsIn s c.context) (premise_terms c ks)
+pub premises_stand : (c : Scene) (s : Store) (ks : List ℕ) → AllByRecursion (λ k. StandsIn s c.context (goal_term k c.context)) ks → AllByRecursion (StandsIn s c.context) (premise_terms c ks)
 unfolding premise_terms
 premises_stand c s [] h = tt
 premises_stand c s (k ∷ ks) h = (h.0, premises_stand c s ks h.1)
 
 -- premises without a value as goals
-pub premises_new : (s0 s s1 s2 : Store) (ks among : List ℕ) → AreNew s0 s ks → Grown s s1 → s2.values ≡ s1.values → count s2 ≡ count s1 → IsAmong among (open_of s1 ks) → AreNew s0 s2 among
+pub premises_new : (s0 s s1 s2 : Store) (ks among : List ℕ) → AreNew s0 s ks → Grown s s1 → s2.values ≡ s1.values → count s1 ≤ count s2 → IsAmong among (open_of s1 ks) → AreNew s0 s2 among
 premises_new s0 s s1 s2 ks among h g e n f = record {
   once = λ k. omega (arith, f k, within k, h.once k);
   inside = λ k l. omega (arith, h.inside k (omega (arith, f k, within k, l)), g.more, n);
@@ -205,7 +247,7 @@ applied_reached c i strict f o s d h k g y =
       body = apply_stands a.0 r.grown.store (names_in c.context) f.term (premise_terms c o.premises) (from_found.keeps (names_in c.context) f.term h.1)
           (premises_stand c a.0 o.premises (all_terms (λ j. StandsIn a.0 c.context (goal_term j c.context)) o.premises
           (λ j l. (grown_then o.store s a.0 g r.grown).keeps (names_in c.context) (goal_term j c.context) (k.terms j l))));
-      goals = older c.store f.store a.0 goals h.0 (premises_new f.store o.store s a.0 o.premises goals k.premises g r.values r.count (without_among needed_ones (open_of s o.premises)));
+      goals = older c.store f.store a.0 goals h.0 (premises_new f.store o.store s a.0 o.premises goals k.premises g r.values r.grown.more (without_among needed_ones (open_of s o.premises)));
     })
   where
     older : (s0 s1 s2 : Store) (ks : List ℕ) → Grown s0 s1 → AreNew s1 s2 ks → AreNew s0 s2 ks
@@ -221,7 +263,7 @@ apply_found_reached c i strict f d h few y =
     let os = gives_bind (opened_type c f) _ d T.2 in
     let openings = type_opened c i f.store g most_premises (not_opened f) [] os.0 (not_opened_is c.context f h.0.store h.2) tt os.1 in
     let o = gives_bind (first_opening c T.0 os.0.0) _ d os.2 in
-    at T.0 o.0 (opening_chosen c i f.store g T.0 os.0.0 o.0 stands few openings o.1) o.2
+    at T.0 o.0 (opening_chosen c i f.store g T.0 os.0.0 o.0 stands few openings.0 o.1) o.2
   where
     at : (T : Tree) (o : Option (Opening × Store)) → (elim o as (λ z. Type 0) [ None ↦ Unit {0} | Some q ↦ IsOpening c.context f.store q.0 × Grown q.0.store q.1 ]) → Gives (applied_or c strict f T o) d → IsReached c d
     at T None k z = absurd (told_none (read f.store f.term ∷ T ∷ []) _ d z)

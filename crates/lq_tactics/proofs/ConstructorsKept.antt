@@ -7,7 +7,7 @@ use Rattle.std.specs.Prelude.{slice_get, zip}
 use Rattle.lq_trees.specs.declared.Sort.{Sort as Universe}
 use Rattle.lq_trees.specs.Tree.{Name, Tree, Trees, Context, same_name, value_of}
 use Rattle.lq_trees.specs.Tree.Tree.{Rel, Var, Sort, Prod, Lam, Let, App, Const, Ind, Ctor, Elim, Evar}
-use Rattle.lq_trees.specs.Change.{close_at, closed, lifted, put, standing, instance}
+use Rattle.lq_trees.specs.Change.{close_at, closed, lift, lifted, put, standing, instance}
 use Rattle.lq_trees.specs.Fresh.{is_listed}
 use Rattle.lq_trees.specs.Ticks.{gives, fails, ◌>>=◌}
 use Rattle.lq_trees.proofs.FillLaws.{lifted_above}
@@ -19,7 +19,7 @@ use Rattle.lq_solving.specs.Elaboration.{Found}
 use Rattle.lq_solving.proofs.InstanceLaws.{same_flip}
 use Rattle.lq_solving.proofs.Moving.{AllHave}
 use Rattle.lq_solving.proofs.Motions.{all_take}
-use Rattle.lq_solving.proofs.Good.{IsGood, EachIsGood, plain_good, apply_good, spine_good}
+use Rattle.lq_solving.proofs.Good.{IsGood, EachIsGood, good_more, plain_good, apply_good, spine_good}
 use Rattle.lq_solving.proofs.StandsLaws.{listed_end, listed_more}
 use Rattle.lq_solving.proofs.Later.{good_stands}
 use Rattle.lq_solving.proofs.ElabKept.{grown_now}
@@ -54,7 +54,7 @@ name_unclosed xs y x d n h = at (same_name x y) refl h
 
 module _ (xs : List Name) (y : Name) where
   mutual
-    unclosed : (d n : ℕ) → d ≤ n → (t : Tree) → IsBare xs (n + 1) (close_at y d t) → IsBare (xs ++ y ∷ []) n t
+    pub unclosed : (d n : ℕ) → d ≤ n → (t : Tree) → IsBare xs (n + 1) (close_at y d t) → IsBare (xs ++ y ∷ []) n t
     unclosed d n l (Rel i) h = rel_unclosed xs d n i l h
     unclosed d n l (Var x) h = name_unclosed xs y x d (n + 1) h
     unclosed d n l (Sort u) h = tt
@@ -79,28 +79,28 @@ under_products (k ∷ g) xs t h =
 
 module _ (vs : List Variable) (as_ : List Assigned) (xs ys : List Name) (ps : List (Name × Tree))
     (every : (x : Name) → is_listed ys x ≡ true → (v : Tree) × (value_of ps x ≡ Some v) × IsGood vs as_ xs 0 v) where
-  name_put : (d : ℕ) (x : Name) → is_listed ys x ≡ true → IsGood vs as_ xs d (standing (value_of ps x) d x)
-  name_put d x e =
+  name_put : (d n : ℕ) (x : Name) → d ≤ n → is_listed ys x ≡ true → IsGood vs as_ xs n (standing (value_of ps x) d x)
+  name_put d n x l e =
       let q = every x e in
-      along (λ o. IsGood vs as_ xs d (standing o d x)) (sym q.1) (lift_good vs as_ xs d 0 0 d (omega arith) q.0 q.2)
+      along (λ o. IsGood vs as_ xs n (standing o d x)) (sym q.1) (good_more vs as_ xs d n l (lift d 0 q.0) (lift_good vs as_ xs d 0 0 d (omega arith) q.0 q.2))
 
   mutual
-    pub put_good : (d : ℕ) (t : Tree) → IsBare ys d t → IsGood vs as_ xs d (put ps d t)
-    put_good d (Rel i) h = h
-    put_good d (Var x) h = name_put d x h
-    put_good d (Sort u) h = tt
-    put_good d (Prod x A B) h = (put_good d A h.0, put_good (d + 1) B h.1)
-    put_good d (Lam x A B) h = (put_good d A h.0, put_good (d + 1) B h.1)
-    put_good d (Let x v A B) h = (put_good d v h.0, put_good d A h.1, put_good (d + 1) B h.2)
-    put_good d (App f a) h = (put_good d f h.0, put_good d a h.1)
-    put_good d (Const c) h = tt
-    put_good d (Ind c) h = tt
-    put_good d (Ctor c k) h = tt
-    put_good d (Elim c u) h = tt
-    put_good d (Evar k ts) h = absurd (omega (arith, h.0))
+    pub put_good : (d n : ℕ) → d ≤ n → (t : Tree) → IsBare ys n t → IsGood vs as_ xs n (put ps d t)
+    put_good d n l (Rel i) h = h
+    put_good d n l (Var x) h = name_put d n x l h
+    put_good d n l (Sort u) h = tt
+    put_good d n l (Prod x A B) h = (put_good d n l A h.0, put_good (d + 1) (n + 1) (omega (arith, l)) B h.1)
+    put_good d n l (Lam x A B) h = (put_good d n l A h.0, put_good (d + 1) (n + 1) (omega (arith, l)) B h.1)
+    put_good d n l (Let x v A B) h = (put_good d n l v h.0, put_good d n l A h.1, put_good (d + 1) (n + 1) (omega (arith, l)) B h.2)
+    put_good d n l (App f a) h = (put_good d n l f h.0, put_good d n l a h.1)
+    put_good d n l (Const c) h = tt
+    put_good d n l (Ind c) h = tt
+    put_good d n l (Ctor c k) h = tt
+    put_good d n l (Elim c u) h = tt
+    put_good d n l (Evar k ts) h = absurd (omega (arith, h.0))
 
 -- names with a value each
-zip_value : (P : Tree → Type 0) (xs : List Name) (ts : List Tree) → length xs ≤ length ts → AllHave P ts → (x : Name) → is_listed xs x ≡ true → (v : Tree) × (value_of (zip xs ts) x ≡ Some v) × P v
+pub zip_value : (P : Tree → Type 0) (xs : List Name) (ts : List Tree) → length xs ≤ length ts → AllHave P ts → (x : Name) → is_listed xs x ≡ true → (v : Tree) × (value_of (zip xs ts) x ≡ Some v) × P v
 unfolding is_listed
 zip_value P [] ts l h x e = absurd (grind (arith, e))
 zip_value P (y ∷ xs) [] l h x e = absurd (omega (arith, l))
@@ -121,7 +121,7 @@ zip_value P (y ∷ xs) (t ∷ ts) l h x e = at (same_name x y) refl (λ f. zip_v
 pub record IsInductive (c : Scene) (i : Inductive) : Type 0 where
   pub sorts : List Universe
   pub declared : lookup c.env i.name ≡ Some (family i.family sorts)
-  pub many : length i.family.parameters ≤ length i.args
+  pub many : length i.args ≡ length i.family.parameters + length i.family.indices
   pub args : AllHave (IsGood c.store.variables c.store.values (names_in c.context) 0) i.args
 
 family_is : (o : Option Entry) (f : Family) → family_in o ≡ Some f → (ss : List Universe) × (o ≡ Some (family f ss))
@@ -146,14 +146,14 @@ module _ (c : Scene) (s : IsScene c) where
       enough f true p q r =
           let d = family_is (lookup c.env x) f q in
           along (IsInductive c) (ap (λ o. elim o as (λ z. Inductive) [ Some z ↦ z | None ↦ i ]) r)
-          (record { sorts = d.0; declared = d.1; many = omega (arith, eqb-true (length args) (length f.parameters + length f.indices) p); args = h })
+          (record { sorts = d.0; declared = d.1; many = eqb-true (length args) (length f.parameters + length f.indices) p; args = h })
 
       at : (o : Option Family) → family_in (lookup c.env x) ≡ o →
           elim o as (λ z. Option Inductive) [ None ↦ None | Some f ↦ inductive_if (eqb (length args) (length f.parameters + length f.indices)) x f args ] ≡ Some i → IsInductive c i
       at None p q = absurd (grind (arith, q))
       at (Some f) p q = enough f (eqb (length args) (length f.parameters + length f.indices)) refl p q
 
-  is_inductive : (t : Tree) (args : List Tree) (i : Inductive) → AreArgs args → inductive_of c.env (t, args) ≡ Some i → IsInductive c i
+  pub is_inductive : (t : Tree) (args : List Tree) (i : Inductive) → AreArgs args → inductive_of c.env (t, args) ≡ Some i → IsInductive c i
   unfolding inductive_of
   is_inductive (Ind x) args i h e = at_family x args i h e
   is_inductive (Rel x) args i h e = absurd (grind (arith, e))
@@ -189,7 +189,7 @@ module _ (c : Scene) (s : IsScene c) where
         let plain = s.plain.constructors i.name i.family h.sorts k (constructor_type i.family d.1) h.declared (ap (λ o. elim o as (λ z. Option Tree) [ None ↦ None | Some x ↦ Some (constructor_type i.family x.1) ]) e) in
         put_good c.store.variables c.store.values (names_in c.context) (names_in i.family.parameters) (zip (names_in i.family.parameters) i.args)
         (zip_value (IsGood c.store.variables c.store.values (names_in c.context) 0) (names_in i.family.parameters) i.args (omega (arith, h.many, length-map i.family.parameters (λ p. p.name))) h.args)
-        0 d.1 (under_products i.family.parameters [] d.1 (plain_good [] [] [] 0 (products i.family.parameters d.1) plain.over plain.within plain.holds))
+        0 0 (omega arith) d.1 (under_products i.family.parameters [] d.1 (plain_good [] [] [] 0 (products i.family.parameters d.1) plain.over plain.within plain.holds))
 
     pub constructor_finds : (k : ℕ) (f : Found) → Gives (constructor_found c i k (slice_get i.family.constructors k)) f → Finds c.store c.context f
     unfolding constructor_found constructor_at

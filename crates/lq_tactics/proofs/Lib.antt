@@ -10,6 +10,11 @@ pub mod IntroKept
 pub mod ApplyKept
 pub mod ConstructorsKept
 pub mod PrimsKept
+pub mod HypothesesKept
+pub mod RetypingKept
+pub mod TelescopesKept
+pub mod ElimKept
+pub mod RewriteKept
 pub mod Playing
 pub mod Examples
 pub mod MatchExamples

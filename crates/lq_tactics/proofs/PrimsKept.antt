@@ -22,7 +22,6 @@ use Rattle.lq_solving.specs.ElabFaults.{by_unify, unify_fault}
 use Rattle.lq_solving.specs.Elaboration.{Givens, Found, found_sort}
 use Rattle.lq_solving.proofs.StoreLaws.{context_keeps, all_more}
 use Rattle.lq_solving.proofs.InstanceLaws.{is_same}
-use Rattle.lq_solving.proofs.Moving.{AllHave}
 use Rattle.lq_solving.proofs.OverLaws.{within_more}
 use Rattle.lq_solving.proofs.Good.{IsGood, spine_good}
 use Rattle.lq_solving.proofs.InferKept.{names_more}
@@ -41,7 +40,7 @@ use Rattle.lq_tactics.proofs.PrimsSettled.{prim_settled}
 use Rattle.lq_tactics.proofs.RowsKept.{AreGiven, IsScene, AreNew, IsReached, IsStep, scene_is, scene_kept, head_good, goal_made, same_values, all_retyped, ended_kept}
 use Rattle.lq_tactics.proofs.StepsKept.{scene_valueless, IsThere, row_listed_kept}
 use Rattle.lq_tactics.proofs.IntroKept.{one_new, two_new, more_context, shut_stands, unused_new, intro_kept, intro_each_kept, intro_all_kept}
-use Rattle.lq_tactics.proofs.ApplyKept.{HasRoom, term_found, apply_found_reached, apply_reached, told_none}
+use Rattle.lq_tactics.proofs.ApplyKept.{HasRoom, sides_stand, term_found, apply_found_reached, apply_reached, told_none}
 use Rattle.lq_tactics.proofs.ConstructorsKept.{goal_is_inductive, constructor_finds, numbered_reached, right_number, numbered_row_reached}
 
 -- no new goal
@@ -228,36 +227,6 @@ module _ (c : Scene) (s : IsScene c) where
 
   -- ---- `reflexivity`
 
-  -- the sides of an equality as read
-  sides_good : (T : Tree) (args : List Tree) (e : Tree × Tree × Tree) → AllHave (IsGood c.store.variables c.store.values (names_in c.context) 0) args → equality_of (T, args) ≡ Some e →
-      StandsIn c.store c.context e.0 × StandsIn c.store c.context e.1 × StandsIn c.store c.context e.2
-  unfolding equality_of
-  sides_good (Ind x) (A ∷ a ∷ b ∷ []) e h q = at (same_name x (codes "eq")) q
-    where
-      at : (o : Bool) → elim o as (λ z. Option (Tree × Tree × Tree)) [ true ↦ Some (A, a, b) | false ↦ None ] ≡ Some e → StandsIn c.store c.context e.0 × StandsIn c.store c.context e.1 × StandsIn c.store c.context e.2
-      at false p = absurd (grind (arith, p))
-      at true p =
-          along (λ z. StandsIn c.store c.context z.0 × StandsIn c.store c.context z.1 × StandsIn c.store c.context z.2) (ap (λ o. elim o as (λ z. Tree × Tree × Tree) [ Some z ↦ z | None ↦ e ]) p) (
-            good_stands c.store s.store c.store.values (names_in c.context) A h.0,
-            good_stands c.store s.store c.store.values (names_in c.context) a h.1.0,
-            good_stands c.store s.store c.store.values (names_in c.context) b h.1.1.0,
-          )
-  sides_good (Ind x) [] e h q = absurd (grind (arith, q))
-  sides_good (Ind x) (A ∷ []) e h q = absurd (grind (arith, q))
-  sides_good (Ind x) (A ∷ a ∷ []) e h q = absurd (grind (arith, q))
-  sides_good (Ind x) (A ∷ a ∷ b ∷ t ∷ ts) e h q = absurd (grind (arith, q))
-  sides_good (Rel x) args e h q = absurd (grind (arith, q))
-  sides_good (Var x) args e h q = absurd (grind (arith, q))
-  sides_good (Sort x) args e h q = absurd (grind (arith, q))
-  sides_good (Prod x A B) args e h q = absurd (grind (arith, q))
-  sides_good (Lam x A B) args e h q = absurd (grind (arith, q))
-  sides_good (Let x v A B) args e h q = absurd (grind (arith, q))
-  sides_good (App f a) args e h q = absurd (grind (arith, q))
-  sides_good (Const x) args e h q = absurd (grind (arith, q))
-  sides_good (Ctor x k) args e h q = absurd (grind (arith, q))
-  sides_good (Elim x u) args e h q = absurd (grind (arith, q))
-  sides_good (Evar k ts) args e h q = absurd (grind (arith, q))
-
   reflexive_reached : (t : Tree) (o : Option (Tree × Tree × Tree)) (d : Done) → HasRoom c 0 →
       ((e : Tree × Tree × Tree) → o ≡ Some e → StandsIn c.store c.context e.0 × StandsIn c.store c.context e.1 × StandsIn c.store c.context e.2) → Gives (reflexive c t o) d → IsReached c d
   unfolding reflexive
@@ -288,7 +257,7 @@ module _ (c : Scene) (s : IsScene c) where
       let t = gives_bind (head_of c c.store c.kind) _ d y in
       let good = head_good c s.plain c.store s.store s.context c.kind t.0 s.kind t.1 in
       reflexive_reached t.0 (equality_of (spine t.0 [])) d few
-      (λ e q. sides_good (spine t.0 []).0 (spine t.0 []).1 e (spine_good c.store.variables c.store.values (names_in c.context) t.0 [] good tt).1 q) t.2
+      (λ e q. sides_stand c.store s.store (names_in c.context) (spine t.0 []).0 (spine t.0 []).1 e (spine_good c.store.variables c.store.values (names_in c.context) t.0 [] good tt).1 q) t.2
 
 -- ---- the table
 

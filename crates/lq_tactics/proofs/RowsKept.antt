@@ -32,12 +32,13 @@ use Rattle.lq_tactics.proofs.BetaKept.{beta_normal_good}
 abbrev pub AreGiven : Store → Givens → Type 0
 AreGiven s vs = (x : Name) (t : Tree) → value_of vs x ≡ Some (given_term t) → IsOver s.variables t × Within 0 t
 
--- where a row may work: the goal has no value, and its context and type stand
+-- where a row may work: the goal is a variable of the store, and its context and type stand; the type is as read
 pub record IsScene (c : Scene) : Type 0 where
   pub plain : ArePlainDeclarations c.env
   pub store : IsStore c.store
   pub context : IsContext c.store c.context
   pub kind : StandsIn c.store c.context c.kind
+  pub good : IsGood c.store.variables c.store.values (names_in c.context) 0 c.kind
   pub inside : c.goal < count c.store
   pub names : names_at c.store.variables c.goal ≡ names_in c.context
   pub values : AreGiven c.store c.values
@@ -62,6 +63,11 @@ pub record IsStep (c : Scene) (st : Step) : Type 0 where
   pub inside : (k : ℕ) → 1 ≤ times st.goals k → k < count st.store
   pub valueless : (k : ℕ) → 1 ≤ times st.goals k → has_value st.store k ≡ false
   pub new : (k : ℕ) → 1 ≤ times st.goals k → k < count c.store → k ≡ c.goal
+
+-- the goal's type is as read
+pub kind_reads : (c : Scene) → IsScene c → read c.store c.kind ≡ c.kind
+unfolding read
+kind_reads c s = done_reads c.store.variables c.store.values c.kind (good_done c.store.variables c.store.values (names_in c.context) 0 c.kind s.good)
 
 -- ---- terms that are needed
 
@@ -333,6 +339,7 @@ scene_kept env n vs s k c plain i g l q =
       store = i;
       context = j.0;
       kind = read_stands s i (names_in v.context) v.kind j.1;
+      good = good_read s i (names_in v.context) v.kind j.1;
       inside = l;
       names = ap (λ o. elim o as (λ z. List Name) [ Some w ↦ names_in w.context | None ↦ [] ]) q.there;
       values = g;
