@@ -20,3 +20,5 @@ pub mod FormLaws
 pub mod ApplicationLaws
 pub mod SolveUnread
 pub mod FormKept
+pub mod HeldLaws
+pub mod FitLaws

@@ -8,3 +8,5 @@ pub mod Exposing
 pub mod Pairs
 pub mod Forms
 pub mod Applications
+pub mod Solving
+pub mod Held

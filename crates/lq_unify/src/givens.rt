@@ -13,7 +13,7 @@ use indexmap::IndexMap;
 use lq_terms::{Bank, Hypothesis, NameId, NoMemory, TermId};
 
 /// These terms for the hypotheses of a context, in order. Of equal names the first counts.
-fn given_for(
+pub(crate) fn given_for(
     bank: &Bank<'_>,
     context: &[Hypothesis],
     terms: &[TermId],

@@ -3,6 +3,7 @@
 
 mod applications;
 mod exposing;
+mod faults;
 mod forms;
 mod givens;
 mod inverting;
@@ -10,3 +11,5 @@ mod pairs;
 mod parts;
 mod replacing;
 mod spines;
+
+pub use faults::UnifyFault;
