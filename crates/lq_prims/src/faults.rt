@@ -1,0 +1,65 @@
+//! Why a primitive does nothing.
+
+use lq_evars::StoreFault;
+use lq_terms::{NameId, NoMemory, TermId};
+
+/// Why a primitive of the first table does nothing. A term that is named is as it reads at that moment.
+#[derive(Clone, Copy)]
+pub enum PrimFault {
+    /// The goal's type has no binder.
+    NothingToIntroduce,
+    /// A hypothesis of the goal has the name.
+    NameInUse(NameId),
+    /// So many variables that the term made have no value.
+    VariablesLeft(u32),
+    /// The term's type does not unify with the goal's type, however many premises it is given: the term, and the goal's type.
+    CannotApply(TermId, TermId),
+    /// A variable on which a premise or the conclusion depends has no value: its name.
+    NotDetermined(NameId),
+    /// No hypothesis has the goal's type.
+    NoAssumption,
+    /// The weak head form of the goal's type is no inductive type.
+    NotInductive(TermId),
+    /// The type has no constructor of that number, counted from 1.
+    NoConstructor(u128),
+    /// The type has so many constructors, and so many are wanted.
+    WrongNumber(u32, u32),
+    /// The constructor takes no argument.
+    NoArgument,
+    /// The weak head form of the goal's type is no equality.
+    NotAnEquality(TermId),
+    /// The two sides of the equality do not unify.
+    DoNotUnify(TermId, TermId),
+    /// What a call of the row on the store is refused for; and `TooLarge` where the goal's body would hold the goal itself, or
+    /// the row's work gave the goal a value.
+    Store(StoreFault),
+    /// More than 10,000 goals would be in focus.
+    TooManyGoals,
+    /// There was no memory.
+    NoMemory,
+}
+
+impl From<StoreFault> for PrimFault {
+    ghost use Rattle.std.specs.Prelude.{◌≡◌};
+    ghost use Rattle.lq_prims.specs.Refusals.{store_refusal};
+
+    ghost from_gives = { λ f e. e ≡ store_refusal f };
+
+    fn from(fault: StoreFault) -> PrimFault {
+        match fault {
+            StoreFault::NoMemory => PrimFault::NoMemory,
+            other => PrimFault::Store(other),
+        }
+    }
+}
+
+impl From<NoMemory> for PrimFault {
+    ghost use Rattle.std.specs.Prelude.{◌≡◌};
+    ghost use Rattle.lq_prims.specs.declared.faults.PrimFault.{PrimFault};
+
+    ghost from_gives = { λ _ e. e ≡ PrimFault.NoMemory };
+
+    fn from(_: NoMemory) -> PrimFault {
+        PrimFault::NoMemory
+    }
+}
