@@ -15,6 +15,8 @@ pub mod RetypingKept
 pub mod TelescopesKept
 pub mod ElimKept
 pub mod RewriteKept
+pub mod RenameKept
+pub mod RulesKept
 pub mod Playing
 pub mod Examples
 pub mod MatchExamples
