@@ -17,6 +17,7 @@ pub mod ElimKept
 pub mod RewriteKept
 pub mod RenameKept
 pub mod RulesKept
+pub mod StillLaws
 pub mod Playing
 pub mod Examples
 pub mod MatchExamples
