@@ -18,6 +18,7 @@ pub mod RewriteKept
 pub mod RenameKept
 pub mod RulesKept
 pub mod StillLaws
+pub mod LetFreeLaws
 pub mod Playing
 pub mod Examples
 pub mod MatchExamples
