@@ -4,3 +4,4 @@ pub mod CallLaws
 pub mod KeptLaws
 pub mod StandingLaws
 pub mod EndLaws
+pub mod NodeLaws
