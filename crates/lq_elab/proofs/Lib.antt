@@ -5,3 +5,4 @@ pub mod KeptLaws
 pub mod StandingLaws
 pub mod EndLaws
 pub mod NodeLaws
+pub mod FrameLaws

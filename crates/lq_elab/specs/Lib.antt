@@ -2,3 +2,4 @@ pub mod Typing
 pub mod Arguments
 pub mod Kept
 pub mod Standing
+pub mod Frames

@@ -1,2 +1,4 @@
-//! Elaboration, and the types of terms over a store.
+//! Types of terms over a store, and elaboration.
 #![tactic(auto)]
+
+mod waiting;
