@@ -6,3 +6,4 @@ pub mod StandingLaws
 pub mod EndLaws
 pub mod NodeLaws
 pub mod FrameLaws
+pub mod KindLaws
