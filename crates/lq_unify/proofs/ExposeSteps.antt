@@ -95,7 +95,7 @@ module _ (bank : Terms) (s : Places) (i : IsStore (store_of bank s)) (n : ℕ) (
   open_kept T ts q e = along (HasOpenHead (store_of bank s).values) (sym q) (none_kept e)
 
   module _ (hs : List Hypothesis) (v : TermId) (e : kept_at s n ≡ Some (hs, v)) where
-    told_is : (find_value (store_of bank s).values n ≡ Some (tree_of bank v)) × (names_at (store_of bank s).variables n ≡ map (λ h. text_of bank h.name) hs)
+    pub told_is : (find_value (store_of bank s).values n ≡ Some (tree_of bank v)) × (names_at (store_of bank s).variables n ≡ map (λ h. text_of bank h.name) hs)
     unfolding values_of told_of
     told_is =
         told_some (store_of bank s).variables n (find_value (store_of bank s).values n) (record { names = map (λ h. text_of bank h.name) hs; body = tree_of bank v })

@@ -22,3 +22,6 @@ pub mod SolveUnread
 pub mod FormKept
 pub mod HeldLaws
 pub mod FitLaws
+pub mod HoldLaws
+pub mod LookLaws
+pub mod SolvingLaws

@@ -10,3 +10,4 @@ pub mod Forms
 pub mod Applications
 pub mod Solving
 pub mod Held
+pub mod Holding

@@ -6,6 +6,7 @@ mod exposing;
 mod faults;
 mod forms;
 mod givens;
+mod holding;
 mod inverting;
 mod pairs;
 mod parts;

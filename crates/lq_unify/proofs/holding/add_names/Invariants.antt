@@ -1,0 +1,12 @@
+use Rattle.std.proofs.Common.{◌≡◌, Bool, ◌||◌, take}
+use Rattle.std.specs.List.{AllByRecursion}
+use Rattle.lq_trees.specs.Tree.{Name}
+use Rattle.lq_terms.specs.Terms.{HasName}
+use Rattle.lq_unify.specs.Holding.{one_marked, tells}
+use Rattle.lq_unify.proofs.holding.add_names.Given as goal
+
+abbrev pub invariant-loop-name : goal.invariant-loop-name
+invariant-loop-name l = record {
+  names : AllByRecursion (HasName l.bank) l.all.names.keys;
+  told : (m : Name → Bool) → tells l.bank m l.all ≡ (tells l.bank m l.fn.all || one_marked l.bank m (take l.name-index l.names));
+}
