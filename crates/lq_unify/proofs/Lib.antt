@@ -25,3 +25,6 @@ pub mod FitLaws
 pub mod HoldLaws
 pub mod LookLaws
 pub mod SolvingLaws
+pub mod UnsolvableLaws
+pub mod GivingLaws
+pub mod BothLaws

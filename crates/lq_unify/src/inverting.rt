@@ -5,11 +5,17 @@ ghost use Rattle.std.specs.List.{AllByRecursion};
 ghost use Rattle.lq_trees.specs.Tree.{Name, value_of};
 ghost use Rattle.lq_terms.specs.Changes.{HasHypothesis};
 ghost use Rattle.lq_terms.specs.Terms.{HasName, HasTerm, text_of, tree_of, trees_by, Grows};
+ghost use Rattle.lq_solving.specs.Kept.{IsOver, IsStore};
 ghost use Rattle.lq_solving.specs.Unification.{place_of};
+ghost use Rattle.lq_evars.specs.Places.{store_of, HasStore};
+ghost use Rattle.lq_evars.specs.Reading.{as_read};
+ghost use Rattle.lq_unify.specs.Held.{is_absent};
 ghost use Rattle.lq_unify.specs.Solutions.{solution, places_of, HasPlaces, place_more, names_of};
 
+use crate::holding::is_barred_in;
 use crate::replacing::{How, replaced};
 use indexmap::IndexMap;
+use lq_evars::Store;
 use lq_terms::{Bank, Hypothesis, NameId, NoMemory, Node, TermId};
 
 /// An entry that is a hypothesis is replaced by the hypothesis of that name from now on.
@@ -84,4 +90,28 @@ pub(crate) fn inverted(
         stays: false,
     };
     replaced(bank, how, &places, term)
+}
+
+/// Whether there is no such term for one as it reads, however large that is. It builds nothing.
+pub(crate) fn is_unsolvable(
+    bank: &mut Bank<'_>,
+    store: &Store,
+    variable: u32,
+    context: &[Hypothesis],
+    entries: &[TermId],
+    term: TermId,
+) -> Result<bool, NoMemory>
+    requires store { HasStore bank.old store.now }
+    requires kept { IsStore (store_of bank.old store.now) }
+    requires context { AllByRecursion (HasHypothesis bank.old) context.now }
+    requires entries { AllByRecursion (HasTerm bank.old) entries.now }
+    requires as_many { length context.now ≡ length entries.now }
+    requires term { HasTerm bank.old term }
+    requires over { IsOver (store_of bank.old store.now).variables (tree_of bank.old term) }
+    ensures is { IfOk result (λ b. b ≡ is_absent (solution (Some variable) (place_of (names_of bank.old context.now) (trees_by (tree_of bank.old) entries.now))
+        (as_read (store_of bank.old store.now) (tree_of bank.old term)))) }
+    ensures grows { Grows bank.old bank.new }
+{
+    let places = places_for(bank, context, entries)?;
+    is_barred_in(&*bank, store, variable, &places, term)
 }

@@ -11,6 +11,7 @@ mod inverting;
 mod pairs;
 mod parts;
 mod replacing;
+mod solving;
 mod spines;
 
 pub use faults::UnifyFault;
