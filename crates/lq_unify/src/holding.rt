@@ -10,7 +10,8 @@ ghost use Rattle.lq_evars.specs.Places.{store_of, HasStore};
 ghost use Rattle.lq_evars.specs.Reading.{as_read, IsIn, AllIn, Covers};
 ghost use Rattle.lq_unify.specs.Solutions.{places_of, HasPlaces};
 ghost use Rattle.lq_unify.specs.Held.{holds_any, one_holds};
-ghost use Rattle.lq_unify.specs.Holding.{one_marked, tells, marked_through, has_no_place, trees_held, IsHeld, AreHeld, Looking, LookDone, Known, AreGivenKnown, IsValueOf, PutsValue, AsksFor};
+ghost use Rattle.lq_unify.specs.Holding.{one_marked, tells, marked_through, has_no_place, trees_held};
+ghost use Rattle.lq_unify.specs.Holding.{IsHeld, AreHeld, Looking, LookDone, Known, AreGivenKnown, IsValueOf, PutsValue, AsksFor};
 
 use crate::givens::given_for;
 use crate::parts::parts_of;
@@ -202,7 +203,8 @@ fn add_each_standing(
     requires known { AreGivenKnown (places_of bank.now given.now.entries) (trees_held bank.now known.now.entries) }
     requires names { AllByRecursion (HasName bank.now) all.old.names.keys }
     ensures told { OnOk result ((m : Name → Bool) → tells bank.now m all.new
-        ≡ (tells bank.now m all.old || one_marked bank.now (marked_through barred m (store_of bank.now store.now) (places_of bank.now given.now.entries)) names.now)) }
+        ≡ (tells bank.now m all.old || one_marked bank.now
+        (marked_through barred m (store_of bank.now store.now) (places_of bank.now given.now.entries)) names.now)) }
     ensures names { OnOk result (AllByRecursion (HasName bank.now) all.new.names.keys) }
 {
     for name in names {
@@ -425,7 +427,8 @@ fn visit(
     requires store { HasStore bank.now store.now }
     requires kept { IsStore (store_of bank.now store.now) }
     requires looking { Looking bank.now (store_of bank.now store.now) barred (work.old.items ++ Look.Visit term ∷ []) known.old.entries }
-    ensures { OnOk result (LookDone bank.now (store_of bank.now store.now) barred (Look.Visit term) work.old.items work.new.items known.old.entries known.new.entries) }
+    ensures { OnOk result (LookDone bank.now (store_of bank.now store.now) barred
+        (Look.Visit term) work.old.items work.new.items known.old.entries known.new.entries) }
 {
     if is_known(known, term) {
         return Ok(());
@@ -556,7 +559,8 @@ pub(crate) fn is_barred_in(
     requires places { HasPlaces bank.now places.now.entries }
     requires term { HasTerm bank.now term }
     requires over { IsOver (store_of bank.now store.now).variables (tree_of bank.now term) }
-    ensures { IfOk result (λ b. b ≡ holds_any barred (has_no_place (places_of bank.now places.now.entries)) (as_read (store_of bank.now store.now) (tree_of bank.now term))) }
+    ensures { IfOk result (λ b. b ≡ holds_any barred (has_no_place (places_of bank.now places.now.entries))
+        (as_read (store_of bank.now store.now) (tree_of bank.now term))) }
 {
     let mut work = Vec::new(bank.allocator());
     let mut known = IndexMap::new(bank.allocator());

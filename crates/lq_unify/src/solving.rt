@@ -88,7 +88,8 @@ fn is_without_body(
     requires entries { AllByRecursion (HasTerm bank.old) entries.now }
     requires as_many { length (names_at (store_of bank.old store.now).variables variable) ≡ length entries.now }
     requires term { IsOfStore bank.old (store_of bank.old store.now) term }
-    ensures is { IfOk result (λ b. b ≡ is_absent (body_of bank.old store.now variable entries.now (as_read (store_of bank.old store.now) (tree_of bank.old term)))) }
+    ensures is { IfOk result (λ b. b ≡ is_absent (body_of bank.old store.now variable entries.now
+        (as_read (store_of bank.old store.now) (tree_of bank.old term)))) }
     ensures grows { Grows bank.old bank.new }
 {
     let context = store.context(variable);
@@ -249,7 +250,8 @@ pub(crate) fn solve(
     requires is { is_variable (tree_of bank.old variable) ≡ true }
     requires term { IsOfStore bank.old (store_of bank.old store.old) term }
     ensures answer { Solves bank.new result store.new
-        (solved (store_of bank.old store.old) (read (store_of bank.old store.old) (tree_of bank.old variable)) (read (store_of bank.old store.old) (tree_of bank.old term))) }
+        (solved (store_of bank.old store.old) (read (store_of bank.old store.old) (tree_of bank.old variable))
+        (read (store_of bank.old store.old) (tree_of bank.old term))) }
     ensures gives { OnOk result (GivesOn bank.old bank.new store.old store.new) }
     ensures refused { OnErr result (store.new ≡ store.old) }
     ensures no { IfOk result (λ b. b ≡ false → store.new ≡ store.old) }
@@ -287,7 +289,8 @@ fn solve_right(
     requires right { IsOfStore bank.old (store_of bank.old store.old) right }
     requires right_open { HasOpenHead (store_of bank.old store.old).values (tree_of bank.old right) }
     ensures answer { SolvesOr bank.new result store.new
-        (by_right (store_of bank.old store.old) (read (store_of bank.old store.old) (tree_of bank.old left)) (read (store_of bank.old store.old) (tree_of bank.old right))) }
+        (by_right (store_of bank.old store.old) (read (store_of bank.old store.old) (tree_of bank.old left))
+        (read (store_of bank.old store.old) (tree_of bank.old right))) }
     ensures gives { OnOk result (GivesOn bank.old bank.new store.old store.new) }
     ensures refused { OnErr result (store.new ≡ store.old) }
     ensures no { IfOk result (λ o. (o ≡ Some true → ⊥) → store.new ≡ store.old) }
@@ -315,7 +318,8 @@ fn after_no(
     requires right { IsOfStore bank.old (store_of bank.old store.old) right }
     requires right_open { HasOpenHead (store_of bank.old store.old).values (tree_of bank.old right) }
     ensures answer { (w : Unify Answer) → w ≡ gives None → Solves bank.new result store.new
-        (or_else w (by_right (store_of bank.old store.old) (read (store_of bank.old store.old) (tree_of bank.old left)) (read (store_of bank.old store.old) (tree_of bank.old right)))) }
+        (or_else w (by_right (store_of bank.old store.old) (read (store_of bank.old store.old) (tree_of bank.old left))
+        (read (store_of bank.old store.old) (tree_of bank.old right)))) }
     ensures gives { OnOk result (GivesOn bank.old bank.new store.old store.new) }
     ensures refused { OnErr result (store.new ≡ store.old) }
     ensures no { IfOk result (λ b. b ≡ false → store.new ≡ store.old) }
@@ -345,8 +349,10 @@ fn left_first(
     requires right_open { HasOpenHead (store_of bank.old store.old).values (tree_of bank.old right) }
     requires is { is_variable (tree_of bank.old left) ≡ true }
     ensures answer { Solves bank.new result store.new
-        (or_else (solved (store_of bank.old store.old) (read (store_of bank.old store.old) (tree_of bank.old left)) (read (store_of bank.old store.old) (tree_of bank.old right)))
-        (by_right (store_of bank.old store.old) (read (store_of bank.old store.old) (tree_of bank.old left)) (read (store_of bank.old store.old) (tree_of bank.old right)))) }
+        (or_else (solved (store_of bank.old store.old) (read (store_of bank.old store.old) (tree_of bank.old left))
+        (read (store_of bank.old store.old) (tree_of bank.old right)))
+        (by_right (store_of bank.old store.old) (read (store_of bank.old store.old) (tree_of bank.old left))
+        (read (store_of bank.old store.old) (tree_of bank.old right)))) }
     ensures gives { OnOk result (GivesOn bank.old bank.new store.old store.new) }
     ensures refused { OnErr result (store.new ≡ store.old) }
     ensures no { IfOk result (λ b. b ≡ false → store.new ≡ store.old) }
@@ -379,7 +385,8 @@ pub(crate) fn by_solving(
     requires left_open { HasOpenHead (store_of bank.old store.old).values (tree_of bank.old left) }
     requires right_open { HasOpenHead (store_of bank.old store.old).values (tree_of bank.old right) }
     ensures answer { SolvesOr bank.new result store.new
-        (by_solving (store_of bank.old store.old) (read (store_of bank.old store.old) (tree_of bank.old left)) (read (store_of bank.old store.old) (tree_of bank.old right))) }
+        (by_solving (store_of bank.old store.old) (read (store_of bank.old store.old) (tree_of bank.old left))
+        (read (store_of bank.old store.old) (tree_of bank.old right))) }
     ensures gives { OnOk result (GivesOn bank.old bank.new store.old store.new) }
     ensures refused { OnErr result (store.new ≡ store.old) }
     ensures no { IfOk result (λ o. (o ≡ Some true → ⊥) → store.new ≡ store.old) }
