@@ -9,7 +9,7 @@ use Rattle.lq_terms.specs.declared.nodes.Node.{Node}
 use Rattle.lq_terms.specs.declared.nodes.TermId.{TermId}
 use Rattle.lq_terms.specs.Terms.{Terms, Grows, node_tree, tree_of}
 use Rattle.lq_solving.specs.Stores.{Store, read}
-use Rattle.lq_solving.specs.Unification.{UnifyFault as TreeFault, Unify, Answer, solve, or_else, by_right, by_solving, is_variable}
+use Rattle.lq_solving.specs.Unification.{UnifyFault as TreeFault, Unify, Answer, or_else, by_right, by_solving, is_variable}
 use Rattle.lq_evars.specs.Places.{Places, store_of, HasStore}
 use Rattle.lq_evars.proofs.Growing.{store_of-grown}
 use Rattle.lq_unify.specs.declared.faults.UnifyFault.{UnifyFault}

@@ -1,9 +1,8 @@
 -- A solution that has hypotheses for hypotheses is as large and as deep as the term.
-use Rattle.std.proofs.Common.{◌≡◌, ◌+◌, ◌∙◌, ℕ, max, eqb, refl, sym, ap, ap₂, arith, true, false, Bool, Option, Some, None}
+use Rattle.std.proofs.Common.{◌≡◌, ◌+◌, ◌∙◌, ℕ, max, refl, sym, ap, ap₂, arith, true, false, Bool, Option, Some, None}
 use Rattle.lq_trees.specs.Tree.{Name, Tree, Trees, none, more}
 use Rattle.lq_trees.specs.Tree.Tree.{Rel, Var, Sort, Prod, Lam, Let, App, Const, Ind, Ctor, Elim, Evar}
 use Rattle.lq_trees.specs.Size.{size, sizes, depth, deepest, fit_of, fit}
-use Rattle.lq_solving.specs.Unification.{two, three}
 use Rattle.lq_solving.proofs.SolveLaws.{two_some, three_some, some_is}
 use Rattle.lq_unify.specs.Solutions.{is_barred, solution, solution_each}
 

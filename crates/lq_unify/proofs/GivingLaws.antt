@@ -1,5 +1,5 @@
 -- A body for a variable by places of the bank, and the store in which the variable got it.
-use Rattle.std.proofs.Common.{◌≡◌, ◌<◌, ◌∙◌, ℕ, Bool, true, false, refl, sym, ap, ap₂, arith, List, [], ◌∷◌, ◌++◌, map, length, append-nil, Result, Ok, Err, Option, Some, None}
+use Rattle.std.proofs.Common.{◌≡◌, ◌<◌, ◌∙◌, ℕ, Bool, true, false, refl, sym, ap, ap₂, arith, List, [], ◌∷◌, map, length, append-nil, Result, Ok, Err, Option, Some, None}
 use Rattle.std.proofs.Common.{subst as along}
 use Rattle.std.proofs.Math.Path.{fun_ext}
 use Rattle.std.proofs.lemmas.List.{length-map}
@@ -7,11 +7,9 @@ use Rattle.std.specs.Prelude.{IfOk, IfSome, OnOk, option_map, slice_get}
 use Rattle.std.specs.List.{AllByRecursion}
 use Rattle.lq_trees.specs.declared.Fit.{Fit}
 use Rattle.lq_trees.specs.Size.{fit}
-use Rattle.lq_trees.specs.Tree.{Name, Tree, Trees}
+use Rattle.lq_trees.specs.Tree.{Tree, Trees}
 use Rattle.lq_trees.specs.Tree.Tree.{Evar}
-use Rattle.lq_trees.specs.Ticks.{gives, fails}
 use Rattle.lq_terms.specs.declared.nodes.Hypothesis.{Hypothesis}
-use Rattle.lq_terms.specs.declared.nodes.NoMemory.{NoMemory}
 use Rattle.lq_terms.specs.declared.nodes.Node.{Node}
 use Rattle.lq_terms.specs.declared.nodes.TermId.{TermId}
 use Rattle.lq_terms.specs.Terms.{Terms, HasTerm, Grows, node_tree, text_of, tree_of, trees_by}
@@ -25,7 +23,7 @@ use Rattle.lq_solving.proofs.ReadLaws.{filled_each, filled_over, filled_within}
 use Rattle.lq_solving.proofs.Later.{Later, now, given_later}
 use Rattle.lq_solving.proofs.StoreLaws.{MayBeGiven}
 use Rattle.lq_evars.specs.declared.store.Variable.{Variable}
-use Rattle.lq_evars.specs.Places.{Places, store_of, variable_of, one_given, HasStore, GivesMore}
+use Rattle.lq_evars.specs.Places.{Places, store_of, variable_of, one_given, HasStore}
 use Rattle.lq_evars.specs.Reading.{as_read}
 use Rattle.lq_evars.proofs.Bodies.{names_told}
 use Rattle.lq_evars.proofs.Growing.{store_of-grown, HasStore-grown}

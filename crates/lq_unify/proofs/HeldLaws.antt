@@ -1,10 +1,10 @@
 -- What a term holds: with terms put in for hypotheses, by its parts, and where there is no solution for it.
-use Rattle.std.proofs.Common.{◌≡◌, ◌+◌, ◌∙◌, ℕ, max, Bool, true, false, ◌||◌, eqb, refl, sym, ap, ap₂, arith, List, [], ◌∷◌, map, Option, Some, None, inl, inr}
+use Rattle.std.proofs.Common.{◌≡◌, ◌+◌, ◌∙◌, ℕ, Bool, true, false, ◌||◌, eqb, refl, sym, ap, ap₂, arith, List, [], ◌∷◌, Option, Some, None, inl, inr}
 use Rattle.std.proofs.lemmas.Bool.{cases_lt}
 use Rattle.lq_trees.specs.Tree.{Name, Tree, Trees, none, more, value_of}
 use Rattle.lq_trees.specs.Tree.Tree.{Rel, Var, Sort, Prod, Lam, Let, App, Const, Ind, Ctor, Elim, Evar}
 use Rattle.lq_trees.specs.Change.{lifted, lift, lift_each, standing, put}
-use Rattle.lq_trees.specs.Marks.{holds_hypothesis, hold_hypothesis, holds_unknown}
+use Rattle.lq_trees.specs.Marks.{holds_hypothesis, holds_unknown}
 use Rattle.lq_trees.specs.Reading.{entries}
 use Rattle.lq_trees.proofs.FillLaws.{lifted_below, lifted_above}
 use Rattle.lq_solving.specs.Unification.{two, three}

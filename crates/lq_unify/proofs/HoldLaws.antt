@@ -3,14 +3,13 @@ use Rattle.std.proofs.Common.{◌≡◌, ◌<◌, ◌≤◌, ◌+◌, ◌∙◌,
 use Rattle.std.proofs.Common.{subst as along}
 use Rattle.std.proofs.Math.Path.{fun_ext}
 use Rattle.std.proofs.lemmas.List.{take_more, take_all, drop_more, map-append, length-map}
-use Rattle.std.specs.Prelude.{◌==◌, cond, if◌then◌else◌, zip, option_map, OnOk, IfOk}
+use Rattle.std.specs.Prelude.{◌==◌, cond, if◌then◌else◌, zip, option_map, IfOk}
 use Rattle.std.specs.Map.{lookup}
 use Rattle.std.specs.List.{AllByRecursion, list_any}
 use Rattle.indexmap.specs.IndexMap.{insert_entry}
 use Rattle.indexmap.specs.IndexSet.{insert_key}
 use Rattle.lq_trees.specs.Tree.{Name, Tree, Trees, same_name, value_of}
 use Rattle.lq_trees.specs.Tree.Tree.{Rel, Var, Sort, Prod, Lam, Let, App, Const, Ind, Ctor, Elim, Evar}
-use Rattle.lq_trees.specs.Change.{put}
 use Rattle.lq_trees.specs.Marks.{holds_hypothesis, holds_unknown}
 use Rattle.lq_trees.specs.Reading.{entries}
 use Rattle.lq_terms.specs.declared.nodes.Hypothesis.{Hypothesis}
@@ -39,7 +38,7 @@ use Rattle.lq_unify.specs.Holding.{one_marked, tells, marked_through, has_no_pla
 use Rattle.lq_unify.proofs.PartLaws.{entries_map}
 use Rattle.lq_unify.proofs.UnreadLaws.{reads_rel, entries_filled}
 use Rattle.lq_unify.proofs.ExposeSteps.{bindings_zip, context_names, told_is}
-use Rattle.lq_unify.proofs.HeldLaws.{marked_by, put_holds, entries_hold, plain_holds, or_nothing, or_third}
+use Rattle.lq_unify.proofs.HeldLaws.{put_holds, entries_hold, plain_holds, or_nothing, or_third}
 
 -- ---- sets of hypotheses
 

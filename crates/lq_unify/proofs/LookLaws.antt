@@ -1,11 +1,10 @@
 -- An item of what is left to look at is done, and what was asked stays asked.
-use Rattle.std.proofs.Common.{◌≡◌, ◌<◌, ◌+◌, ◌*◌, ◌∙◌, inl, inr, ℕ, refl, sym, ap, ap₂, arith, List, [], ◌∷◌, ◌++◌, map, append_assoc, append-nil, Result, Ok, Err, Option, Some, None}
+use Rattle.std.proofs.Common.{◌≡◌, ◌<◌, ◌∙◌, inl, inr, ℕ, refl, sym, ap, ap₂, arith, List, [], ◌∷◌, ◌++◌, map, append_assoc, append-nil, Result, Ok, Err, Option, Some, None}
 use Rattle.std.proofs.Common.{subst as along}
 use Rattle.std.specs.Prelude.{OnOk, IfSome, option_map}
 use Rattle.std.specs.List.{AllByRecursion}
 use Rattle.lq_trees.specs.Tree.{Tree, Trees}
 use Rattle.lq_trees.specs.Tree.Tree.{Rel, Var, Sort, Prod, Lam, Let, App, Const, Ind, Ctor, Elim, Evar}
-use Rattle.lq_trees.specs.Reading.{entries}
 use Rattle.lq_terms.specs.declared.nodes.NoMemory.{NoMemory}
 use Rattle.lq_terms.specs.declared.nodes.Node.{Node}
 use Rattle.lq_terms.specs.declared.nodes.TermId.{TermId}
@@ -13,7 +12,7 @@ use Rattle.lq_terms.specs.Terms.{Terms, HasTerm, node_tree, tree_of}
 use Rattle.lq_terms.proofs.Builds.{all_front, all_back, all_both}
 use Rattle.lq_solving.specs.Stores.{Variable, Assigned, Store, find_value, value}
 use Rattle.lq_solving.specs.Kept.{IsOver, IsStore, Sound}
-use Rattle.lq_evars.specs.Reading.{Item, visits, builds, tree_in, IsIn, AllIn, finish, AreReady, weight, weights, Covers, with_term}
+use Rattle.lq_evars.specs.Reading.{Item, visits, builds, tree_in, IsIn, finish, AreReady, weight, weights, Covers, with_term}
 use Rattle.lq_evars.specs.Places.{Places, store_of, value_at, HasStore}
 use Rattle.lq_evars.proofs.Lookups.{values_told}
 use Rattle.lq_evars.proofs.ValueRead.{value_has}

@@ -1,5 +1,5 @@
 -- What solving says where there is no solution, where the solution passes the limits, and where it may be given.
-use Rattle.std.proofs.Common.{◌≡◌, ◌∙◌, ℕ, Bool, true, false, refl, sym, ap, arith, List, Result, Ok, Err, Option, Some, None}
+use Rattle.std.proofs.Common.{◌≡◌, ◌∙◌, ℕ, Bool, true, false, refl, sym, ap, arith, Result, Ok, Err, Option, Some, None}
 use Rattle.std.proofs.Common.{subst as along}
 use Rattle.lq_trees.specs.declared.Fit.{Fit}
 use Rattle.lq_trees.specs.Tree.{Name, Tree, Trees}
@@ -9,10 +9,10 @@ use Rattle.lq_trees.specs.Hypotheses.{HoldsOnly}
 use Rattle.lq_trees.specs.Size.{fit}
 use Rattle.lq_trees.specs.Ticks.{gives, fails, ◌>>=◌}
 use Rattle.lq_solving.specs.Occurs.{holds_variable}
-use Rattle.lq_solving.specs.Stores.{Store, StoreFault, names_at, find_value, read, read_fitting, size_fault, assigned, with_value, read_too_large, read_too_deep}
+use Rattle.lq_solving.specs.Stores.{Store, StoreFault, names_at, find_value, read, size_fault, assigned, with_value, read_too_large, read_too_deep}
 use Rattle.lq_solving.specs.Kept.{IsOver, IsValue, IsStore}
 use Rattle.lq_solving.specs.Unification.{Unify, Answer, place_of, inverted, solve, given_body, unify_fitting, unify_too_large, unify_too_deep}
-use Rattle.lq_solving.proofs.ReadLaws.{filled, filled_each, filled_over, filled_within, open_stays}
+use Rattle.lq_solving.proofs.ReadLaws.{filled_each, filled_over, filled_within, open_stays}
 use Rattle.lq_solving.proofs.DoneLaws.{IsDone, IsInverted, filled_done, done_reads, done_leads, place_is_name, inverted_is}
 use Rattle.lq_solving.proofs.UnifyRows.{variable_names}
 use Rattle.lq_unify.specs.Solutions.{solution}

@@ -5,17 +5,17 @@ use Rattle.std.proofs.Math.Path.{fun_ext}
 use Rattle.std.proofs.lemmas.List.{take_more}
 use Rattle.std.specs.Prelude.{IfOk}
 use Rattle.std.specs.List.{AllByRecursion}
-use Rattle.lq_trees.specs.Tree.{Name, Tree, Trees, more, value_of}
+use Rattle.lq_trees.specs.Tree.{Name, Tree, more, value_of}
 use Rattle.lq_trees.specs.Index.{Within}
 use Rattle.lq_terms.specs.declared.nodes.NameId.{NameId}
 use Rattle.lq_terms.specs.declared.nodes.NoMemory.{NoMemory}
 use Rattle.lq_terms.specs.declared.nodes.TermId.{TermId}
 use Rattle.lq_terms.specs.Terms.{Terms, HasTerm, Grows, tree_of, trees_by}
-use Rattle.lq_solving.specs.Stores.{Variable, Store, read}
+use Rattle.lq_solving.specs.Stores.{Store, read}
 use Rattle.lq_solving.specs.Kept.{IsOver, IsStore}
 use Rattle.lq_solving.specs.Unification.{place_of}
-use Rattle.lq_solving.proofs.ReadLaws.{filled, filled_each}
-use Rattle.lq_solving.proofs.UnifyRows.{each_filled, none_filled}
+use Rattle.lq_solving.proofs.ReadLaws.{filled_each}
+use Rattle.lq_solving.proofs.UnifyRows.{each_filled}
 use Rattle.lq_evars.specs.Places.{Places, store_of, HasStore}
 use Rattle.lq_evars.specs.Reading.{as_read}
 use Rattle.lq_evars.proofs.Growing.{store_of-grown, HasStore-grown}

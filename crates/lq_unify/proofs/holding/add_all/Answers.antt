@@ -1,5 +1,4 @@
 use Rattle.std.proofs.Common.{◌∙◌, ap, ◌||◌}
-use Rattle.std.proofs.Common.{subst as along}
 use Rattle.lq_unify.specs.Holding.{one_marked}
 use Rattle.lq_unify.proofs.HoldLaws.{both_told}
 use Rattle.lq_unify.proofs.holding.add_all.Goals as goal

@@ -1,4 +1,4 @@
-use Rattle.std.proofs.Common.{refl, sym, ◌∷◌}
+use Rattle.std.proofs.Common.{refl, sym}
 use Rattle.std.proofs.Common.{subst as along}
 use Rattle.lq_evars.specs.Places.{store_of}
 use Rattle.lq_evars.specs.Reading.{IsIn}

@@ -1,4 +1,4 @@
-use Rattle.std.proofs.Common.{◌∙◌, rules, sym, ap, ◌||◌, arith, map, [], ◌≡◌}
+use Rattle.std.proofs.Common.{rules, sym, ap, ◌||◌, arith, [], ◌≡◌}
 use Rattle.std.proofs.Common.{subst as along}
 use Rattle.std.specs.List.{AllByRecursion}
 use Rattle.lq_terms.specs.Terms.{HasName, tree_of}

@@ -1,4 +1,4 @@
-use Rattle.std.proofs.Common.{◌∙◌, sym}
+use Rattle.std.proofs.Common.{sym}
 use Rattle.lq_evars.specs.Places.{store_of}
 use Rattle.lq_unify.proofs.ExposeSteps.{none_kept}
 use Rattle.lq_unify.proofs.HoldLaws.{entries_known, value_kept, open_if}

@@ -1,7 +1,5 @@
-use Rattle.std.proofs.Common.{◌∙◌, ap, ◌++◌, map}
 use Rattle.lq_terms.specs.Terms.{tree_of}
 use Rattle.lq_evars.specs.Places.{store_of}
-use Rattle.lq_unify.specs.declared.holding.Look.{Look}
 use Rattle.lq_unify.proofs.LookLaws.{asks_if}
 use Rattle.lq_unify.proofs.holding.push_parts.Goals as goal
 

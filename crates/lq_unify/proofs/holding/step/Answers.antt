@@ -1,5 +1,4 @@
 use Rattle.lq_evars.specs.Places.{store_of}
-use Rattle.lq_unify.specs.Holding.{Looking}
 use Rattle.lq_unify.proofs.LookLaws.{build_finds, built_if}
 use Rattle.lq_unify.proofs.holding.step.Goals as goal
 

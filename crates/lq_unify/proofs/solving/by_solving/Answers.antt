@@ -1,4 +1,4 @@
-use Rattle.std.proofs.Common.{◌≡◌, ◌∙◌, sym, true, false}
+use Rattle.std.proofs.Common.{◌∙◌, sym, true, false}
 use Rattle.std.proofs.Common.{subst as along}
 use Rattle.lq_terms.specs.Terms.{tree_of}
 use Rattle.lq_solving.specs.Stores.{read}

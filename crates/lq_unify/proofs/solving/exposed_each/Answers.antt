@@ -1,11 +1,9 @@
-use Rattle.std.proofs.Common.{◌∙◌, rules, ap, ap₂, sym, arith, [], ◌≡◌, take}
+use Rattle.std.proofs.Common.{rules, sym, arith, [], ◌≡◌}
 use Rattle.std.proofs.Common.{subst as along}
 use Rattle.std.proofs.lemmas.List.{take_all}
-use Rattle.lq_solving.specs.Stores.{read}
 use Rattle.lq_terms.specs.Terms.{tree_of}
 use Rattle.lq_terms.proofs.Growth.{Grows-refl, Grows-trans}
 use Rattle.lq_evars.specs.Places.{store_of}
-use Rattle.lq_evars.proofs.Growing.{store_of-grown}
 use Rattle.lq_unify.specs.Solving.{AreExposed}
 use Rattle.lq_unify.proofs.UnsolvableLaws.{store_has, store_kept, entry_of, entry_open, entry_reads, exposed_more}
 use Rattle.lq_unify.proofs.solving.exposed_each.Goals as goal

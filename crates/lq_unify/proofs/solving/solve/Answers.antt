@@ -1,9 +1,8 @@
-use Rattle.std.proofs.Common.{◌≡◌, ◌∙◌, sym, ap}
+use Rattle.std.proofs.Common.{◌∙◌, sym, ap}
 use Rattle.std.proofs.Common.{subst as along}
-use Rattle.std.specs.List.{AllByRecursion}
 use Rattle.lq_trees.specs.Tree.Tree.{Evar}
 use Rattle.lq_terms.specs.declared.nodes.Node.{Node}
-use Rattle.lq_terms.specs.Terms.{HasTerm, tree_of, trees_by}
+use Rattle.lq_terms.specs.Terms.{tree_of, trees_by}
 use Rattle.lq_solving.specs.Stores.{read}
 use Rattle.lq_evars.specs.Places.{store_of}
 use Rattle.lq_unify.specs.Solving.{Solves, solved, IsOpenAt}
