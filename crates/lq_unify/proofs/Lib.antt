@@ -28,3 +28,6 @@ pub mod SolvingLaws
 pub mod UnsolvableLaws
 pub mod GivingLaws
 pub mod BothLaws
+pub mod FormSteps
+pub mod SplitLaws
+pub mod OneLaws

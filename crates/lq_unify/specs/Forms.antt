@@ -1,5 +1,5 @@
 -- The parts of two terms by their forms.
-use Rattle.std.specs.Prelude.{◌≡◌, Bool, false, ◌&&◌, eqb, List, [], ◌∷◌, ◌++◌, Option, Some, None}
+use Rattle.std.specs.Prelude.{◌≡◌, Bool, false, ◌&&◌, eqb, List, [], ◌∷◌, ◌++◌, Option, Some, None, option_map, IfSome}
 use Rattle.std.specs.List.{AllByRecursion}
 use Rattle.lq_trees.specs.Tree.{Tree, Context, same_name}
 use Rattle.lq_trees.specs.Tree.Tree.{Var, Sort, Const, Ind, Ctor, Elim}
@@ -8,6 +8,7 @@ use Rattle.lq_terms.specs.Contexts.{HasAllOf, hypothesis_of}
 use Rattle.lq_calculus.specs.Checking.{same_sort}
 use Rattle.lq_solving.specs.Unification.{Sides, sides}
 use Rattle.lq_unify.specs.declared.pairs.Under.{Under}
+use Rattle.lq_unify.specs.declared.pairs.Pair.{Pair}
 use Rattle.lq_unify.specs.declared.forms.Form.{Form}
 use Rattle.lq_unify.specs.Pairs.{pairs_in, HasPair}
 
@@ -40,3 +41,18 @@ same_leaf (Ind c) (Ind d) = same_name c d
 same_leaf (Ctor c k) (Ctor d l) = same_name c d && eqb k l
 same_leaf (Elim c s) (Elim d t) = same_name c d && same_sort s t
 same_leaf _ _ = false
+
+-- the bank has these parts
+pub record HasForm (bank : Terms) (f : Form) : Type 0 where
+  pub pairs : AllByRecursion (HasPair bank) f.pairs.items
+  pub under : HasUnder bank f.under
+
+-- the parts that there are, if there are some, lie in the bank and stand for those sides
+abbrev pub FormIs : Terms → Context → Option Form → Option (List Sides) → Type 0
+FormIs bank g None o = o ≡ None
+FormIs bank g (Some f) o = HasForm bank f × (o ≡ Some (form_in bank g f))
+
+-- the pairs that there are, if there are some, lie in the bank and stand for those sides
+pub record PairsAre (bank : Terms) (g : Context) (ps : Option (List Pair)) (o : Option (List Sides)) : Type 0 where
+  pub has : IfSome ps (AllByRecursion (HasPair bank))
+  pub are : option_map (pairs_in bank g) ps ≡ o

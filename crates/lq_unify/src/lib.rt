@@ -13,5 +13,6 @@ mod parts;
 mod replacing;
 mod solving;
 mod spines;
+mod splitting;
 
 pub use faults::UnifyFault;
