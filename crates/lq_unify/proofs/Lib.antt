@@ -31,3 +31,5 @@ pub mod BothLaws
 pub mod FormSteps
 pub mod SplitLaws
 pub mod OneLaws
+pub mod FrameLaws
+pub mod FrameSteps

@@ -11,3 +11,5 @@ pub mod Applications
 pub mod Solving
 pub mod Held
 pub mod Holding
+pub mod Frames
+pub mod Turns

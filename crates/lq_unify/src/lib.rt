@@ -5,6 +5,7 @@ mod applications;
 mod exposing;
 mod faults;
 mod forms;
+mod frames;
 mod givens;
 mod holding;
 mod inverting;
@@ -12,6 +13,7 @@ mod pairs;
 mod parts;
 mod replacing;
 mod solving;
+mod resuming;
 mod spines;
 mod splitting;
 
