@@ -33,3 +33,7 @@ pub mod SplitLaws
 pub mod OneLaws
 pub mod FrameLaws
 pub mod FrameSteps
+pub mod RowSteps
+pub mod ExposedSteps
+pub mod OpenSteps
+pub mod PushLaws

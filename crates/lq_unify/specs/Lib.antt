@@ -13,3 +13,4 @@ pub mod Held
 pub mod Holding
 pub mod Frames
 pub mod Turns
+pub mod Telling
