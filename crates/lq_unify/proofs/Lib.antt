@@ -37,3 +37,5 @@ pub mod RowSteps
 pub mod ExposedSteps
 pub mod OpenSteps
 pub mod PushLaws
+pub mod FormTurns
+pub mod TurnSteps

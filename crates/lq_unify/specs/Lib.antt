@@ -14,3 +14,4 @@ pub mod Holding
 pub mod Frames
 pub mod Turns
 pub mod Telling
+pub mod Reducing
