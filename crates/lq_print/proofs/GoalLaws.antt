@@ -4,7 +4,7 @@ use Rattle.std.proofs.lemmas.List.{take_more, map-append, length-map, length-tak
 use Rattle.lq_calculus.specs.Declarations.{Env}
 use Rattle.lq_terms.specs.Terms.{Terms}
 use Rattle.lq_texts.specs.Views.{Goal, goal_text, goal_texts}
-use Rattle.lq_print.specs.declared.views.GoalView.{GoalView}
+use Rattle.lq_goals.specs.declared.views.GoalView.{GoalView}
 use Rattle.lq_print.specs.Goals.{goal_of}
 
 pub no_goals : (env : Env) (out : List ℕ) → out ≡ out ++ goal_texts env 1 []

@@ -11,3 +11,5 @@ pub mod AmongLaws
 pub mod PageLaws
 pub mod BackLaws
 pub mod GoalLaws
+pub mod FaultLaws
+pub mod EntryLaws

@@ -5,8 +5,8 @@ use Rattle.std.proofs.lemmas.Bool.{ne_eqb}
 use Rattle.std.proofs.Math.Seq.{take-append_seam, drop-append_seam}
 use Rattle.lq_trees.specs.Tree.{Name, Tree, Trees, none, more}
 use Rattle.lq_trees.specs.Tree.Tree.{Rel, Var, Sort, Prod, Lam, Let, App, Const, Ind, Ctor, Elim, Evar}
-use Rattle.lq_calculus.specs.Declarations.{Env, eliminator_name}
-use Rattle.lq_texts.specs.Printing.{uses, uses_any, constructor_name}
+use Rattle.lq_calculus.specs.Declarations.{Env}
+use Rattle.lq_texts.specs.Printing.{uses, uses_any, constructor_name, eliminator_text}
 use Rattle.lq_print.specs.Spelling.{Spelled, Over, Shown, named, applied, product, function, local, unknown, marked, emit, put_name, enter, leave, over, hide, spell, spell_each}
 use Rattle.lq_print.specs.Flat.{names_back, names_back_each, over_of, flat, or_each, used_by}
 
@@ -151,7 +151,7 @@ mutual
   spell_is env (Const c) s = leaf_named s c (λ k. uses k (Const c)) (λ k. refl)
   spell_is env (Ind c) s = leaf_named s c (λ k. uses k (Ind c)) (λ k. refl)
   spell_is env (Ctor c n) s = leaf_named s (constructor_name env c n) (λ k. uses k (Ctor c n)) (λ k. refl)
-  spell_is env (Elim c u) s = leaf_named s (eliminator_name c u) (λ k. uses k (Elim c u)) (λ k. refl)
+  spell_is env (Elim c u) s = leaf_named s (eliminator_text c u) (λ k. uses k (Elim c u)) (λ k. refl)
   spell_is env (Evar n ts) s =
       ap (λ (r : Spelled). hide n (length s.pieces) r) (spell_each_is env ts s)
       ∙ same_parts _ _ _ _ _ _ refl refl (ap (λ (ps : List Shown). ps ++ unknown n ∷ []) (take-append_seam s.pieces (flat_each env ts)))

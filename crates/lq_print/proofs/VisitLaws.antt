@@ -19,7 +19,7 @@ use Rattle.lq_print.specs.declared.spelling.Spelling.{Spelling}
 use Rattle.lq_print.specs.Tables.{text_at}
 use Rattle.lq_print.specs.Spelling.{Over, product, function, local, Spelled, emit, put_name, enter, leave, over, hide, nearest, spell, spell_each}
 use Rattle.lq_print.specs.Pieces.{inside_of, shown_in, HasPiece, spelled_of, IsSpelling, Longer, Spells}
-use Rattle.lq_print.specs.Works.{AreSorts, EachSorts, IsPrinted, over_at, done, run, HasScope, HasWork, weight, weights, Turned, Closes}
+use Rattle.lq_print.specs.Works.{over_at, done, run, HasScope, HasWork, weight, weights, Turned, Closes}
 use Rattle.lq_print.proofs.TableLaws.{lengthens_self, lengthens_trans}
 use Rattle.lq_print.proofs.Lists.{all_append, all_front, all_weaker}
 use Rattle.lq_print.proofs.PieceLaws.{shown_kept, has_kept}
@@ -114,7 +114,7 @@ module _ (bank : Terms) (env : Env) (ws : List Work) (old new : Spelling) where
   -- a binder over a body
   pub turned_binder :
       (left : List Work) (then : Work) (body : TermId) (t u : Tree) → t ≡ u → left ≡ ws ++ then ∷ Work.Visit body ∷ [] → Spells bank old new enter
-      → IsPrinted bank body → HasWork bank old then → IsSpelling bank old → weight bank then + 3 * size (tree_of bank body) < 3 * size t
+      → HasTerm bank body → HasWork bank old then → IsSpelling bank old → weight bank then + 3 * size (tree_of bank body) < 3 * size t
       → done bank env old then (spell env (tree_of bank body) (enter (spelled_of bank old))) ≡ spell env t (spelled_of bank old)
       → Turned bank env (spell env u) (3 * size u) ws left old new
   turned_binder left then body t u e is h printed has sound small same = record {
@@ -138,50 +138,46 @@ module _ (bank : Terms) (env : Env) (ws left : List Work) (old new : Spelling) (
   abbrev scope : TermId → Scope
   scope kind = record { name = x; low = low; kind = kind }
 
-  has_scope : (kind : TermId) → IsPrinted bank kind → HasScope bank old (scope kind)
+  has_scope : (kind : TermId) → HasTerm bank kind → HasScope bank old (scope kind)
   has_scope kind p = record { name = named; low = omega (arith, from); kind = p }
 
   pub turned_product :
-      (kind rest : TermId) → Prod (text_of bank x) (tree_of bank kind) (tree_of bank rest) ≡ u → HasTerm bank kind → HasTerm bank rest → AreSorts u
+      (kind rest : TermId) → Prod (text_of bank x) (tree_of bank kind) (tree_of bank rest) ≡ u → HasTerm bank kind → HasTerm bank rest
       → left ≡ ws ++ Work.Product (scope kind) ∷ Work.Visit rest ∷ [] → Turned bank env (spell env u) (3 * size u) ws left old new
-  turned_product kind rest e a b sorts is =
-      let s : AreSorts (Prod (text_of bank x) (tree_of bank kind) (tree_of bank rest)) = subst AreSorts (sym e) sorts in
+  turned_product kind rest e a b is =
       turned_binder bank env ws old new left (Work.Product (scope kind)) rest (Prod (text_of bank x) (tree_of bank kind) (tree_of bank rest)) u e is h
-      (record { has = b; sorts = s.1 }) (has_scope kind (record { has = a; sorts = s.0 })) sound (omega arith)
+      b (has_scope kind a) sound (omega arith)
       (let b = spell env (tree_of bank rest) (enter (spelled_of bank old)) in
       ap (λ k. emit (product (over (text_of bank x) k b)) (spell env (tree_of bank kind) (leave b))) counted)
 
   pub turned_function :
-      (kind rest : TermId) → Lam (text_of bank x) (tree_of bank kind) (tree_of bank rest) ≡ u → HasTerm bank kind → HasTerm bank rest → AreSorts u
+      (kind rest : TermId) → Lam (text_of bank x) (tree_of bank kind) (tree_of bank rest) ≡ u → HasTerm bank kind → HasTerm bank rest
       → left ≡ ws ++ Work.Function (scope kind) ∷ Work.Visit rest ∷ [] → Turned bank env (spell env u) (3 * size u) ws left old new
-  turned_function kind rest e a b sorts is =
-      let s : AreSorts (Lam (text_of bank x) (tree_of bank kind) (tree_of bank rest)) = subst AreSorts (sym e) sorts in
+  turned_function kind rest e a b is =
       turned_binder bank env ws old new left (Work.Function (scope kind)) rest (Lam (text_of bank x) (tree_of bank kind) (tree_of bank rest)) u e is h
-      (record { has = b; sorts = s.1 }) (has_scope kind (record { has = a; sorts = s.0 })) sound (omega arith)
+      b (has_scope kind a) sound (omega arith)
       (let b = spell env (tree_of bank rest) (enter (spelled_of bank old)) in
       ap (λ k. emit (function (over (text_of bank x) k b)) (spell env (tree_of bank kind) (leave b))) counted)
 
   pub turned_local :
       (value kind rest : TermId) → Let (text_of bank x) (tree_of bank value) (tree_of bank kind) (tree_of bank rest) ≡ u
-      → HasTerm bank value → HasTerm bank kind → HasTerm bank rest → AreSorts u
+      → HasTerm bank value → HasTerm bank kind → HasTerm bank rest
       → left ≡ ws ++ Work.Local (scope kind) value ∷ Work.Visit rest ∷ [] → Turned bank env (spell env u) (3 * size u) ws left old new
-  turned_local value kind rest e v a b sorts is =
-      let s : AreSorts (Let (text_of bank x) (tree_of bank value) (tree_of bank kind) (tree_of bank rest)) = subst AreSorts (sym e) sorts in
+  turned_local value kind rest e v a b is =
       turned_binder bank env ws old new left (Work.Local (scope kind) value) rest (Let (text_of bank x) (tree_of bank value) (tree_of bank kind) (tree_of bank rest)) u e is h
-      (record { has = b; sorts = s.2 }) (has_scope kind (record { has = a; sorts = s.1 }), record { has = v; sorts = s.0 }) sound (omega arith)
+      b (has_scope kind a, v) sound (omega arith)
       (let b = spell env (tree_of bank rest) (enter (spelled_of bank old)) in
       ap (λ k. emit (local (over (text_of bank x) k b)) (spell env (tree_of bank kind) (spell env (tree_of bank value) (leave b)))) counted)
 
 module _ (bank : Terms) (env : Env) (ws left : List Work) (now : Spelling) (u : Tree) (sound : IsSpelling bank now) where
   pub turned_application :
-      (f a : TermId) → App (tree_of bank f) (tree_of bank a) ≡ u → HasTerm bank f → HasTerm bank a → AreSorts u
+      (f a : TermId) → App (tree_of bank f) (tree_of bank a) ≡ u → HasTerm bank f → HasTerm bank a
       → left ≡ ws ++ Work.Emit Piece.Applied ∷ Work.Visit f ∷ Work.Visit a ∷ [] → Turned bank env (spell env u) (3 * size u) ws left now now
-  turned_application f a e p q sorts is =
-      let s : AreSorts (App (tree_of bank f) (tree_of bank a)) = subst AreSorts (sym e) sorts in
+  turned_application f a e p q is =
       record {
         added = Work.Emit Piece.Applied ∷ Work.Visit f ∷ Work.Visit a ∷ [];
         is = is;
-        has = (tt, (record { has = p; sorts = s.0 }, (record { has = q; sorts = s.1 }, tt)));
+        has = (tt, (p, (q, tt)));
         spelling = sound;
         longer = longer_self now;
         same = ap (λ v. spell env v (spelled_of bank now)) e;
@@ -196,20 +192,19 @@ module _ (bank : Terms) (env : Env) (ws left : List Work) (now : Spelling) (u : 
   visits_weigh [] = omega arith
   visits_weigh (t ∷ ts) = omega (arith, visits_weigh ts)
 
-  has_visits : (ts : List TermId) → AllByRecursion (HasTerm bank) ts → EachSorts (trees_by (tree_of bank) ts) → AllByRecursion (HasWork bank now) (map Work.Visit ts)
-  has_visits [] h s = tt
-  has_visits (t ∷ ts) h s = (record { has = h.0; sorts = s.0 }, has_visits ts h.1 s.1)
+  has_visits : (ts : List TermId) → AllByRecursion (HasTerm bank) ts → AllByRecursion (HasWork bank now) (map Work.Visit ts)
+  has_visits [] h = tt
+  has_visits (t ∷ ts) h = (h.0, has_visits ts h.1)
 
   pub turned_instance :
-      (n k : ℕ) (ts : List TermId) → Evar n (trees_by (tree_of bank) ts) ≡ u → AllByRecursion (HasTerm bank) ts → AreSorts u → k ≡ length now.pieces.items
+      (n k : ℕ) (ts : List TermId) → Evar n (trees_by (tree_of bank) ts) ≡ u → AllByRecursion (HasTerm bank) ts → k ≡ length now.pieces.items
       → left ≡ ws ++ Work.Hide n k ∷ map Work.Visit ts → Turned bank env (spell env u) (3 * size u) ws left now now
-  turned_instance n k ts e p sorts from is =
-      let s : AreSorts (Evar n (trees_by (tree_of bank) ts)) = subst AreSorts (sym e) sorts in
+  turned_instance n k ts e p from is =
       let counted : k ≡ length (spelled_of bank now).pieces = from ∙ sym (length-map now.pieces.items (shown_in bank now.texts now.names.items)) in
       record {
         added = Work.Hide n k ∷ map Work.Visit ts;
         is = is;
-        has = (tt, has_visits ts p s);
+        has = (tt, has_visits ts p);
         spelling = sound;
         longer = longer_self now;
         same =
@@ -239,7 +234,7 @@ closes bank o old new b h e f name used low high = record {
     same_over x y u v xs ys e f g = cc
 
 module _ (bank : Terms) (env : Env) (ws left : List Work) (old new : Spelling) (o : Scope) (b : Binder) (c : Closes bank o old new b) (h : Spells bank old new leave) where
-  pub closed_product : IsPrinted bank o.kind → left ≡ ws ++ Work.Emit (Piece.Product b) ∷ Work.Visit o.kind ∷ [] →
+  pub closed_product : HasTerm bank o.kind → left ≡ ws ++ Work.Emit (Piece.Product b) ∷ Work.Visit o.kind ∷ [] →
       Turned bank env (done bank env old (Work.Product o)) (weight bank (Work.Product o)) ws left old new
   closed_product p is = record {
     added = Work.Emit (Piece.Product b) ∷ Work.Visit o.kind ∷ [];
@@ -253,7 +248,7 @@ module _ (bank : Terms) (env : Env) (ws left : List Work) (old new : Spelling) (
     lighter = omega arith;
   }
 
-  pub closed_function : IsPrinted bank o.kind → left ≡ ws ++ Work.Emit (Piece.Function b) ∷ Work.Visit o.kind ∷ [] →
+  pub closed_function : HasTerm bank o.kind → left ≡ ws ++ Work.Emit (Piece.Function b) ∷ Work.Visit o.kind ∷ [] →
       Turned bank env (done bank env old (Work.Function o)) (weight bank (Work.Function o)) ws left old new
   closed_function p is = record {
     added = Work.Emit (Piece.Function b) ∷ Work.Visit o.kind ∷ [];
@@ -267,7 +262,7 @@ module _ (bank : Terms) (env : Env) (ws left : List Work) (old new : Spelling) (
     lighter = omega arith;
   }
 
-  pub closed_local : (v : TermId) → IsPrinted bank o.kind → IsPrinted bank v → left ≡ ws ++ Work.Emit (Piece.Local b) ∷ Work.Visit o.kind ∷ Work.Visit v ∷ [] →
+  pub closed_local : (v : TermId) → HasTerm bank o.kind → HasTerm bank v → left ≡ ws ++ Work.Emit (Piece.Local b) ∷ Work.Visit o.kind ∷ Work.Visit v ∷ [] →
       Turned bank env (done bank env old (Work.Local o v)) (weight bank (Work.Local o v)) ws left old new
   closed_local v p q is = record {
     added = Work.Emit (Piece.Local b) ∷ Work.Visit o.kind ∷ Work.Visit v ∷ [];

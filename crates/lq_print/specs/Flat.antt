@@ -3,8 +3,8 @@ use Rattle.std.specs.Prelude.{ℕ, suc, Bool, true, false, ◌||◌, List, [], �
 use Rattle.lq_trees.specs.Tree.{Name, Tree, Trees, none, more}
 use Rattle.lq_trees.specs.Tree.Tree.{Rel, Var, Sort, Prod, Lam, Let, App, Const, Ind, Ctor, Elim, Evar}
 use Rattle.lq_trees.specs.Fresh.{fresh_of}
-use Rattle.lq_calculus.specs.Declarations.{Env, eliminator_name}
-use Rattle.lq_texts.specs.Printing.{uses, constructor_name, own_name}
+use Rattle.lq_calculus.specs.Declarations.{Env}
+use Rattle.lq_texts.specs.Printing.{uses, constructor_name, own_name, eliminator_text}
 use Rattle.lq_print.specs.Spelling.{Over, Shown, bound, named, sort, applied, product, function, local, unknown}
 
 -- the names that occur in a term, from right to left
@@ -20,7 +20,7 @@ abbrev mutual
   names_back env (Const c) = c ∷ []
   names_back env (Ind c) = c ∷ []
   names_back env (Ctor c k) = constructor_name env c k ∷ []
-  names_back env (Elim c s) = eliminator_name c s ∷ []
+  names_back env (Elim c s) = eliminator_text c s ∷ []
   names_back env (Evar n ts) = names_back_each env ts
 
   pub names_back_each : Env → Trees → List Name
@@ -43,7 +43,7 @@ node_of env (App f a) = applied
 node_of env (Const c) = named c
 node_of env (Ind c) = named c
 node_of env (Ctor c k) = named (constructor_name env c k)
-node_of env (Elim c s) = named (eliminator_name c s)
+node_of env (Elim c s) = named (eliminator_text c s)
 node_of env (Evar n ts) = unknown n
 
 -- the parts that are printed, in the order in which they are
@@ -73,7 +73,7 @@ flat env (App f a) = (flat env a ++ flat env f) ++ applied ∷ []
 flat env (Const c) = named c ∷ []
 flat env (Ind c) = named c ∷ []
 flat env (Ctor c k) = named (constructor_name env c k) ∷ []
-flat env (Elim c s) = named (eliminator_name c s) ∷ []
+flat env (Elim c s) = named (eliminator_text c s) ∷ []
 flat env (Evar n ts) = unknown n ∷ []
 
 -- the pieces of terms, those of the first behind those of the others

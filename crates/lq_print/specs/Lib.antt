@@ -6,3 +6,5 @@ pub mod Pieces
 pub mod Works
 pub mod Pages
 pub mod Goals
+pub mod Causes
+pub mod Entries

@@ -3,8 +3,8 @@ use Rattle.std.specs.Prelude.{ℕ, zero, suc, Bool, true, false, List, [], ◌�
 use Rattle.lq_trees.specs.declared.Sort.{Sort as Universe}
 use Rattle.lq_trees.specs.Tree.{Name, Tree, Trees, none, more}
 use Rattle.lq_trees.specs.Tree.Tree.{Rel, Var, Sort, Prod, Lam, Let, App, Const, Ind, Ctor, Elim, Evar}
-use Rattle.lq_calculus.specs.Declarations.{Env, eliminator_name}
-use Rattle.lq_texts.specs.Printing.{constructor_name}
+use Rattle.lq_calculus.specs.Declarations.{Env}
+use Rattle.lq_texts.specs.Printing.{constructor_name, eliminator_text}
 
 -- a binder: its own name, whether the body uses it, and the names in the body
 pub record Over : Type 0 where
@@ -83,7 +83,7 @@ abbrev mutual
   spell env (Const c) s = put_name c s
   spell env (Ind c) s = put_name c s
   spell env (Ctor c k) s = put_name (constructor_name env c k) s
-  spell env (Elim c u) s = put_name (eliminator_name c u) s
+  spell env (Elim c u) s = put_name (eliminator_text c u) s
   spell env (Evar n ts) s = hide n (length s.pieces) (spell_each env ts s)
 
   -- the entries of an instance, the last one first

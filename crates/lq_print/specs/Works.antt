@@ -1,46 +1,18 @@
 -- What is left to do while a term is spelled: a change of what has been spelled.
 use Rattle.std.specs.Prelude.{◌≡◌, ◌≤◌, ◌<◌, ◌+◌, ◌*◌, ℕ, List, [], ◌∷◌, ◌++◌, length, Option, Some, None}
 use Rattle.std.specs.List.{AllByRecursion}
-use Rattle.lq_trees.specs.Tree.{Tree, Trees, none, more}
-use Rattle.lq_trees.specs.Tree.Tree.{Rel, Var, Sort, Prod, Lam, Let, App, Const, Ind, Ctor, Elim, Evar}
 use Rattle.lq_trees.specs.Size.{size}
 use Rattle.lq_calculus.specs.Declarations.{Env, Entry}
 use Rattle.lq_texts.specs.Printing.{nth_name, constructor_in}
 use Rattle.lq_terms.specs.Terms.{Terms, HasName, HasTerm, text_of, tree_of}
-use Rattle.lq_terms.specs.declared.nodes.TermId.{TermId}
 use Rattle.lq_env.specs.declared.family.Family.{Family}
-use Rattle.lq_env.specs.Families.{IsSort, HasConstructor, constructors_of}
+use Rattle.lq_env.specs.Families.{HasConstructor, constructors_of}
 use Rattle.lq_print.specs.declared.pieces.Binder.{Binder}
 use Rattle.lq_print.specs.declared.work.Scope.{Scope}
 use Rattle.lq_print.specs.declared.work.Work.{Work}
 use Rattle.lq_print.specs.declared.spelling.Spelling.{Spelling}
 use Rattle.lq_print.specs.Spelling.{Over, product, function, local, Spelled, emit, leave, over, hide, spell}
 use Rattle.lq_print.specs.Pieces.{shown_in, over_in, HasBinder, HasPiece, spelled_of, IsSpelling, Longer}
-
--- the sorts of a term's eliminators are sorts
-abbrev mutual
-  pub AreSorts : Tree → Type 0
-  AreSorts (Rel i) = Unit {0}
-  AreSorts (Var x) = Unit {0}
-  AreSorts (Sort s) = Unit {0}
-  AreSorts (Prod x A B) = AreSorts A × AreSorts B
-  AreSorts (Lam x A t) = AreSorts A × AreSorts t
-  AreSorts (Let x v A t) = AreSorts v × AreSorts A × AreSorts t
-  AreSorts (App f a) = AreSorts f × AreSorts a
-  AreSorts (Const c) = Unit {0}
-  AreSorts (Ind c) = Unit {0}
-  AreSorts (Ctor c k) = Unit {0}
-  AreSorts (Elim c s) = IsSort s
-  AreSorts (Evar n ts) = EachSorts ts
-
-  pub EachSorts : Trees → Type 0
-  EachSorts none = Unit {0}
-  EachSorts (more t ts) = AreSorts t × EachSorts ts
-
--- a term of the bank, the sorts of whose eliminators are sorts
-pub record IsPrinted (bank : Terms) (t : TermId) : Type 0 where
-  pub has : HasTerm bank t
-  pub sorts : AreSorts (tree_of bank t)
 
 -- the end of a binder over a body that is spelled
 abbrev pub over_at : Terms → Scope → Spelled → Over
@@ -63,13 +35,13 @@ run bank env now (w ∷ ws) s = done bank env now w (run bank env now ws s)
 pub record HasScope (bank : Terms) (now : Spelling) (o : Scope) : Type 0 where
   pub name : HasName bank o.name
   pub low : o.low ≤ length now.names.items
-  pub kind : IsPrinted bank o.kind
+  pub kind : HasTerm bank o.kind
 
 abbrev pub HasWork : Terms → Spelling → Work → Type 0
-HasWork bank now (Work.Visit t) = IsPrinted bank t
+HasWork bank now (Work.Visit t) = HasTerm bank t
 HasWork bank now (Work.Product o) = HasScope bank now o
 HasWork bank now (Work.Function o) = HasScope bank now o
-HasWork bank now (Work.Local o v) = HasScope bank now o × IsPrinted bank v
+HasWork bank now (Work.Local o v) = HasScope bank now o × HasTerm bank v
 HasWork bank now (Work.Emit p) = HasPiece bank now.texts now.names.items p
 HasWork bank now (Work.Hide n k) = Unit {0}
 

@@ -1,7 +1,10 @@
 //! Terms, goals and proofs as text.
 #![tactic(auto)]
 
+mod causes;
 mod choosing;
+mod entries;
+mod faults;
 mod numbers;
 mod pieces;
 mod printing;
@@ -13,5 +16,11 @@ mod visiting;
 mod work;
 mod writing;
 
+pub use causes::{
+    Cause, DeclarationCause, GoalCause, LtacCause, PrimitiveCause, RuleCause, ScriptCause,
+    SentenceCause, TermCause, TextCause,
+};
+pub use entries::{PrintFault, print_text};
+pub use faults::fault_text;
 pub use printing::written_text;
-pub use views::{GoalView, GoalViews, ProofView, check_text, proof_text};
+pub use views::{check_text, proof_text};

@@ -8,7 +8,7 @@ ghost use Rattle.lq_trees.specs.Same.{Same};
 ghost use Rattle.lq_trees.specs.Index.{Within};
 ghost use Rattle.lq_trees.specs.Hypotheses.{HoldsOnly};
 ghost use Rattle.lq_trees.specs.Fresh.{is_listed};
-ghost use Rattle.lq_terms.specs.Terms.{tree_of};
+ghost use Rattle.lq_terms.specs.Terms.{HasTerm, tree_of};
 ghost use Rattle.lq_terms.specs.Contexts.{context_of};
 ghost use Rattle.lq_env.specs.Environments.{IsEnv, env_of};
 ghost use Rattle.lq_ast.specs.Commands.{stated, command, check};
@@ -17,7 +17,6 @@ ghost use Rattle.lq_texts.specs.ReadBack.{IsPlain, IsDeclared, ReadsTo, check_se
 ghost use Rattle.lq_texts.specs.Elaborated.{Elaborates};
 ghost use Rattle.lq_print.specs.Flat.{flat};
 ghost use Rattle.lq_print.specs.Pieces.{IsSpelling};
-ghost use Rattle.lq_print.specs.Works.{IsPrinted};
 
 use crate::spelling::{Spelling, blank};
 use crate::visiting::spell;
@@ -36,7 +35,7 @@ fn write_term(
     term: TermId,
 ) -> Result<(), NoMemory>
     requires env { IsEnv bank.now env.now }
-    requires term { IsPrinted bank.now term }
+    requires term { HasTerm bank.now term }
     requires texts { spelling.old.texts ≡ [] }
     requires names { spelling.old.names.items ≡ [] }
     requires pieces { spelling.old.pieces.items ≡ [] }
@@ -56,7 +55,7 @@ pub(crate) fn append_term(
     term: TermId,
 ) -> Result<(), NoMemory>
     requires env { IsEnv bank.now env.now }
-    requires term { IsPrinted bank.now term }
+    requires term { HasTerm bank.now term }
     ensures text { OnOk result (string_bytes out.new ≡ string_bytes out.old ++ term_text (env_of bank.now env.now) (tree_of bank.now term)) }
     ensures few { OnOk result (length (flat (env_of bank.now env.now) (tree_of bank.now term)) < 2 ^ 63) }
 {
@@ -90,7 +89,7 @@ pub fn written_text(
     term: TermId,
 ) -> Result<Text, NoMemory>
     requires env { IsEnv bank.now env.now }
-    requires term { IsPrinted bank.now term }
+    requires term { HasTerm bank.now term }
     ensures text { IfOk result (λ x. x ≡ term_text (env_of bank.now env.now) (tree_of bank.now term)) }
     ensures reads_back { IfOk result (λ _. IsPlain (env_of bank.now env.now) (tree_of bank.now term) → Within 0 (tree_of bank.now term)
         → ReadsTo (check_sentence (env_of bank.now env.now) (tree_of bank.now term))

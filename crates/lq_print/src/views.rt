@@ -3,79 +3,20 @@
 ghost use Rattle.std.specs.Prelude.{◌≡◌, ◌++◌, map, flat_map, option_map, decimal, codes, OnOk, IfOk};
 ghost use Rattle.std.specs.List.{AllByRecursion};
 ghost use Rattle.std.specs.String.{string_bytes};
-ghost use Rattle.lq_terms.specs.Terms.{HasName, text_of, tree_of};
+ghost use Rattle.lq_terms.specs.Terms.{HasName, HasTerm, text_of, tree_of};
 ghost use Rattle.lq_terms.specs.Contexts.{context_of, hypothesis_of};
 ghost use Rattle.lq_env.specs.Environments.{IsEnv, env_of};
 ghost use Rattle.lq_texts.specs.Views.{line, goals_text, entry_text, hypothesis_line, goal_name_text, goal_text, goal_texts};
 ghost use Rattle.lq_texts.specs.Views.{shelf_text, proof_text, check_text};
-ghost use Rattle.lq_print.specs.Works.{IsPrinted};
-ghost use Rattle.lq_print.specs.Goals.{goal_of, view_of, HasNameOr, IsPrintedOr, HasHypothesis, HasGoal};
+ghost use Rattle.lq_print.specs.Goals.{goal_of, view_of, HasNameOr, HasTermOr, HasHypothesis, HasGoal};
 
 use crate::printing::append_term;
 use crate::steps::write;
 use crate::writing::write_number;
 use lq_ast::Text;
 use lq_env::Env;
-use lq_terms::{Bank, Context, Hypothesis, NameId, NoMemory, TermId};
-use std::marker::Model;
-
-/// A goal, read through the store.
-#[derive(Drop)]
-pub struct GoalView {
-    /// Its name, if it has one.
-    pub name: Option<NameId>,
-    /// Its hypotheses, the oldest first.
-    pub context: Context,
-    /// Its conclusion.
-    pub kind: TermId,
-}
-
-/// Goals in order, which contracts see as a list.
-#[derive(Drop)]
-pub struct GoalViews {
-    goals: Vec<GoalView>,
-}
-
-impl Model for GoalViews {
-    ghost use Rattle.std.specs.Prelude.{List};
-    ghost use Rattle.lq_print.specs.declared.views.GoalView.{GoalView};
-
-    ghost Value = { List GoalView };
-
-    ghost view = { λ v. v.goals.items };
-}
-
-impl GoalViews {
-    /// Of these goals, in order.
-    pub fn from_goals(goals: Vec<GoalView>) -> GoalViews
-        ensures { result ≡ goals.items }
-    {
-        GoalViews { goals }
-    }
-
-    /// The goals, given back.
-    pub fn into_goals(self) -> Vec<GoalView>
-        ensures { result.items ≡ self }
-    {
-        self.goals
-    }
-
-    /// The goals.
-    pub fn goals(&self) -> &[GoalView]
-        ensures { result.now ≡ self.now }
-    {
-        self.goals.as_slice()
-    }
-}
-
-/// A proof, read through the store.
-#[derive(Drop)]
-pub struct ProofView {
-    /// The goals in focus.
-    pub goals: GoalViews,
-    /// How many goals are on the shelf.
-    pub shelved: u32,
-}
+use lq_goals::{GoalView, ProofView};
+use lq_terms::{Bank, Hypothesis, NameId, NoMemory, TermId};
 
 /// Writes how many goals there are.
 #[tactic(auto, unfolding(lq_texts::specs::Views::goals_text))]
@@ -104,8 +45,8 @@ pub(crate) fn write_entry(
 ) -> Result<(), NoMemory>
     requires env { IsEnv bank.now env.now }
     requires name { HasName bank.now name }
-    requires kind { IsPrinted bank.now kind }
-    requires body { IsPrintedOr bank.now body }
+    requires kind { HasTerm bank.now kind }
+    requires body { HasTermOr bank.now body }
     ensures { OnOk result (string_bytes out.new ≡ string_bytes out.old
         ++ entry_text (env_of bank.now env.now) (text_of bank.now name) (tree_of bank.now kind) (option_map (tree_of bank.now) body)) }
 {
@@ -251,10 +192,10 @@ fn write_proof(
     proof: &ProofView,
 ) -> Result<(), NoMemory>
     requires env { IsEnv bank.now env.now }
-    requires goals { AllByRecursion (HasGoal bank.now) proof.now.goals }
+    requires goals { AllByRecursion (HasGoal bank.now) proof.now.goals.items }
     ensures { OnOk result (string_bytes out.new ≡ string_bytes out.old ++ proof_text (env_of bank.now env.now) (view_of bank.now proof.now)) }
 {
-    let goals = proof.goals.goals();
+    let goals = proof.goals.as_slice();
     write_goal_count(out, goals.len() as u64)?;
     write(out, "\n")?;
     write_goals(out, bank, env, goals)?;
@@ -266,7 +207,7 @@ fn write_proof(
 /// The only refusal is for want of memory.
 pub fn proof_text(bank: &Bank<'_>, env: &Env, proof: &ProofView) -> Result<Text, NoMemory>
     requires env { IsEnv bank.now env.now }
-    requires goals { AllByRecursion (HasGoal bank.now) proof.now.goals }
+    requires goals { AllByRecursion (HasGoal bank.now) proof.now.goals.items }
     ensures { IfOk result (λ x. x ≡ proof_text (env_of bank.now env.now) (view_of bank.now proof.now)) }
 {
     let mut out = String::new(bank.allocator());
@@ -284,8 +225,8 @@ fn write_checked(
     kind: TermId,
 ) -> Result<(), NoMemory>
     requires env { IsEnv bank.now env.now }
-    requires term { IsPrinted bank.now term }
-    requires kind { IsPrinted bank.now kind }
+    requires term { HasTerm bank.now term }
+    requires kind { HasTerm bank.now kind }
     ensures { OnOk result (string_bytes out.new ≡ string_bytes out.old
         ++ check_text (env_of bank.now env.now) (tree_of bank.now term) (tree_of bank.now kind)) }
 {
@@ -298,8 +239,8 @@ fn write_checked(
 /// The line of a term and its type, as `Check` writes it. The only refusal is for want of memory.
 pub fn check_text(bank: &Bank<'_>, env: &Env, term: TermId, kind: TermId) -> Result<Text, NoMemory>
     requires env { IsEnv bank.now env.now }
-    requires term { IsPrinted bank.now term }
-    requires kind { IsPrinted bank.now kind }
+    requires term { HasTerm bank.now term }
+    requires kind { HasTerm bank.now kind }
     ensures { IfOk result (λ x. x ≡ check_text (env_of bank.now env.now) (tree_of bank.now term) (tree_of bank.now kind)) }
 {
     let mut out = String::new(bank.allocator());

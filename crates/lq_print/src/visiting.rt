@@ -2,23 +2,26 @@
 
 ghost use Rattle.std.specs.Prelude.{◌≡◌, ◌≤◌, ◌<◌, ◌+◌, ◌*◌, [], ◌∷◌, ◌++◌, map, length, OnOk, IfOk};
 ghost use Rattle.std.specs.List.{AllByRecursion};
+ghost use Rattle.std.specs.String.{string_bytes};
 ghost use Rattle.lq_trees.specs.Tree.{Tree, Name};
 ghost use Rattle.lq_trees.specs.Size.{size};
 ghost use Rattle.lq_terms.specs.Terms.{Terms, HasName, HasTerm, text_of, tree_of, trees_by};
 ghost use Rattle.lq_print.specs.declared.pieces.Piece.{Piece};
-ghost use Rattle.lq_calculus.specs.Declarations.{eliminator_name, lookup};
-ghost use Rattle.lq_texts.specs.Printing.{constructor_name, nth_name};
-ghost use Rattle.lq_env.specs.Families.{IsSort, HasConstructor, constructors_of};
+ghost use Rattle.lq_calculus.specs.Declarations.{lookup};
+ghost use Rattle.lq_texts.specs.Printing.{constructor_name, eliminator_text, nth_name};
+ghost use Rattle.lq_env.specs.Families.{HasConstructor, constructors_of};
 ghost use Rattle.lq_env.specs.Environments.{IsEnv, IsOwn, env_of};
 ghost use Rattle.std.specs.Option.{option_copied};
 ghost use Rattle.lq_print.specs.declared.work.Work.{Work};
 ghost use Rattle.lq_print.specs.Spelling.{Spelled, spell, put_name, enter, leave, hide};
 ghost use Rattle.lq_print.specs.Pieces.{spelled_of, IsSpelling, Spells};
-ghost use Rattle.lq_print.specs.Works.{AreSorts, EachSorts, IsPrinted, HasScope, HasWork, IsFamilyAt, Turned, Closes, done, run, weight};
+ghost use Rattle.lq_print.specs.Works.{HasScope, HasWork, IsFamilyAt, Turned, Closes, done, run, weight};
 
 use crate::pieces::{Binder, Piece};
 use crate::spelling::{Spelling, emit, enter, leave, put_bound, put_name};
+use crate::steps::write;
 use crate::work::{Scope, Work};
+use crate::writing::write_number;
 use lq_env::{Entry, Env, Family};
 use lq_terms::{Bank, NameId, NoMemory, Node, TermId};
 use lq_trees::Sort;
@@ -64,18 +67,22 @@ fn constructor_name<'t>(bank: &'t Bank<'_>, env: &Env, family: NameId, index: u3
     nth_name(bank, family.constructors.constructors(), index as usize)
 }
 
-/// What ends the name of the eliminator into a sort.
-fn ending(sort: Sort) -> &'static str
-    requires { IsSort sort }
-    ensures { (family : Name) → family ++ result.now ≡ eliminator_name family sort }
+/// The printed name of an eliminator.
+#[tactic(auto, unfolding(lq_texts::specs::Printing::eliminator_text))]
+fn eliminator_text(bank: &Bank<'_>, family: NameId, sort: Sort) -> Result<String, NoMemory>
+    requires { HasName bank.now family }
+    ensures { IfOk result (λ x. string_bytes x ≡ eliminator_text (text_of bank.now family) sort) }
 {
+    let mut text = String::new(bank.allocator());
+    write(&mut text, bank.text(family))?;
     match sort {
-        Sort::Base => "_ind",
-        Sort::Level(0) => "_rec0",
-        Sort::Level(1) => "_rec1",
-        Sort::Level(2) => "_rec2",
-        Sort::Level(_) => "_rec3",
+        Sort::Base => write(&mut text, "_ind")?,
+        Sort::Level(level) => {
+            write(&mut text, "_rec")?;
+            write_number(&mut text, u64::from(level))?
+        }
     }
+    Ok(text)
 }
 
 /// Spells an eliminator.
@@ -86,12 +93,10 @@ fn put_eliminator(
     sort: Sort,
 ) -> Result<(), NoMemory>
     requires family { HasName bank.now family }
-    requires sort { IsSort sort }
     requires spelling { IsSpelling bank.now spelling.old }
-    ensures { OnOk result (Spells bank.now spelling.old spelling.new (put_name (eliminator_name (text_of bank.now family) sort))) }
+    ensures { OnOk result (Spells bank.now spelling.old spelling.new (put_name (eliminator_text (text_of bank.now family) sort))) }
 {
-    let mut text = String::from_str(bank.allocator(), bank.text(family))?;
-    text.push_str(ending(sort))?;
+    let text = eliminator_text(bank, family, sort)?;
     put_name(spelling, text.as_str())
 }
 
@@ -153,7 +158,7 @@ fn visit(
     term: TermId,
 ) -> Result<(), NoMemory>
     requires env { IsEnv bank.now env.now }
-    requires term { IsPrinted bank.now term }
+    requires term { HasTerm bank.now term }
     requires spelling { IsSpelling bank.now spelling.old }
     ensures { OnOk result (Turned bank.now (env_of bank.now env.now) (spell (env_of bank.now env.now) (tree_of bank.now term))
         (3 * size (tree_of bank.now term))
@@ -306,7 +311,7 @@ pub(crate) fn spell(
     term: TermId,
 ) -> Result<(), NoMemory>
     requires env { IsEnv bank.now env.now }
-    requires term { IsPrinted bank.now term }
+    requires term { HasTerm bank.now term }
     requires spelling { IsSpelling bank.now spelling.old }
     ensures { OnOk result (Spells bank.now spelling.old spelling.new (spell (env_of bank.now env.now) (tree_of bank.now term))) }
 {

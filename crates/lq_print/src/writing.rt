@@ -95,7 +95,7 @@ fn write_product(
 }
 
 /// Writes a binder's printed name, `_` for the empty one.
-fn write_name(out: &mut String, name: &str) -> Result<(), NoMemory>
+pub(crate) fn write_name(out: &mut String, name: &str) -> Result<(), NoMemory>
     ensures { OnOk result (string_bytes out.new ≡ string_bytes out.old ++ name_text name.now) }
 {
     if name.is_empty() {

@@ -3,4 +3,4 @@
 
 mod printing;
 
-pub use printing::{checked, shown, written};
+pub use printing::{checked, listed, shown, told, written};

@@ -4,7 +4,7 @@
 
 mod rows;
 
-use crate::rows::{answer, fault_text};
+use crate::rows::{answer, refusal_text};
 use std::io;
 
 fn main(rt: HostRuntime) -> io::Result<()> {
@@ -15,7 +15,7 @@ fn main(rt: HostRuntime) -> io::Result<()> {
         } else {
             match answer(rt.alloc(), &line) {
                 Ok(text) => println!(rt; "{line} => {text}")?,
-                Err(fault) => println!(rt; "{line} => {}", fault_text(fault))?,
+                Err(fault) => println!(rt; "{line} => {}", refusal_text(fault))?,
             }
         }
     }

@@ -1,57 +1,32 @@
-//! What rows come to. `text WORDS` is the text of the term that the words write, in an environment that has the family `nat` with
-//! its constructors `O` and `S`; `long WORDS` is how many bytes it has.
+//! What rows come to, in an environment that has the family `nat` with its constructors `O` and `S`. `text WORDS` is the text of the term
+//! that the words write; `long WORDS` is how many bytes it has. `print NAME` is the line of the name, or the text of the fault;
+//! `mismatch WORDS ; WORDS` is the text of the fault of two types, and `failure N WORD ..` that of a failure at level N with messages.
 
-ghost use Rattle.std.specs.Prelude.{◌≡◌, IsTrue, IfOk, OnOk};
-ghost use Rattle.lq_terms.specs.Terms.{HasTerm, tree_of, Grows};
-ghost use Rattle.lq_env.specs.Families.{IsSort};
+ghost use Rattle.std.specs.Prelude.{OnOk};
+ghost use Rattle.lq_terms.specs.Terms.{Grows};
 ghost use Rattle.lq_env.specs.Environments.{IsEnv};
-ghost use Rattle.lq_print.specs.Works.{AreSorts};
+ghost use Rattle.lq_print.specs.Causes.{HasCause};
 
 use lq_ast::Text;
 use lq_env::{Env, EnvFault};
-use lq_print::written_text;
-use lq_terms::{Bank, Context, NoMemory, Node, TermId};
+use lq_print::{
+    Cause, DeclarationCause, LtacCause, PrintFault, ScriptCause, TermCause, fault_text, print_text,
+    written_text,
+};
+use lq_terms::{Bank, Context};
 use lq_trees::Sort;
-use lq_words::{RowFault, build, is_sort, parse_family, taken_family};
+use lq_words::{RowFault, build, parse_family, taken_family};
 use std::alloc::Global;
 
 /// The family of natural numbers.
 const NAT: &str = "nat : Type.0 | | | O : nat; S : -> nat nat";
 
 /// What a row without an answer tells.
-pub(crate) fn fault_text(fault: RowFault) -> &'static str {
+pub(crate) fn refusal_text(fault: RowFault) -> &'static str {
     match fault {
         RowFault::NoMemory => "no memory",
         RowFault::Malformed => "no such row",
         RowFault::Unwritten => "not as is promised",
-    }
-}
-
-/// Whether the sorts of a term's eliminators are sorts, and no variable of it has more than one entry. It calls itself as deep as
-/// the term is.
-fn has_sorts(bank: &Bank<'_>, term: TermId) -> bool
-    requires { HasTerm bank.now term }
-    ensures { IsTrue result → AreSorts (tree_of bank.now term) }
-{
-    match bank.node(term) {
-        Node::Rel(_) => true,
-        Node::Var(_) => true,
-        Node::Sort(_) => true,
-        Node::Const(_) => true,
-        Node::Ind(_) => true,
-        Node::Ctor(_, _) => true,
-        Node::Elim(_, sort) => is_sort(*sort),
-        Node::Evar(_, entries) => match entries.terms() {
-            [] => true,
-            [entry] => has_sorts(bank, *entry),
-            _ => false,
-        },
-        Node::Let(_, value, kind, rest) => {
-            has_sorts(bank, *value) && has_sorts(bank, *kind) && has_sorts(bank, *rest)
-        }
-        Node::Prod(_, kind, rest) => has_sorts(bank, *kind) && has_sorts(bank, *rest),
-        Node::Lam(_, kind, body) => has_sorts(bank, *kind) && has_sorts(bank, *body),
-        Node::App(function, argument) => has_sorts(bank, *function) && has_sorts(bank, *argument),
     }
 }
 
@@ -80,18 +55,93 @@ fn text_in(bank: &mut Bank<'_>, env: &mut Env, words: &str) -> Result<Text, RowF
 {
     declare_nat(bank, env)?;
     let term = build(bank, words)?;
-    if !has_sorts(bank, term) {
-        return Err(RowFault::Unwritten);
-    }
     let context = Context::new(bank.allocator());
     Ok(written_text(bank, env, &context, term)?)
 }
 
-/// The same, in a bank and an environment of its own.
-fn text(alloc: Global, words: &str) -> Result<Text, RowFault> {
+/// The text of a cause at a level.
+fn told(bank: &Bank<'_>, env: &Env, cause: Cause, level: u128) -> Result<Text, RowFault>
+    requires env { IsEnv bank.now env.now }
+    requires cause { HasCause bank.now cause }
+{
+    let cause = ScriptCause { cause, level };
+    Ok(fault_text(bank, env, &cause)?)
+}
+
+/// The line of a name, or the text of the fault.
+#[tactic(auto, using(lq_words::proofs::Environments::growing))]
+fn line_in(bank: &mut Bank<'_>, env: &mut Env, name: &str) -> Result<Text, RowFault>
+    requires { IsEnv bank.old env.old }
+{
+    declare_nat(bank, env)?;
+    let name = bank.name(name)?;
+    match print_text(bank, env, name) {
+        Ok(text) => Ok(text),
+        Err(PrintFault::Unknown(name)) => {
+            told(bank, env, Cause::Term(TermCause::Unknown(name)), 0)
+        }
+        Err(PrintFault::ElimForbidden(family, sort)) => {
+            let cause = DeclarationCause::ElimForbidden(family, sort);
+            told(bank, env, Cause::Declaration(cause), 0)
+        }
+        Err(PrintFault::NoMemory) => Err(RowFault::NoMemory),
+    }
+}
+
+/// The text of the fault of two types.
+#[tactic(auto, using(lq_words::proofs::Environments::growing))]
+fn mismatch_in(bank: &mut Bank<'_>, env: &mut Env, words: &str) -> Result<Text, RowFault>
+    requires { IsEnv bank.old env.old }
+{
+    let Some((found, wanted)) = words.split_once(" ; ") else {
+        return Err(RowFault::Malformed);
+    };
+    declare_nat(bank, env)?;
+    let found = build(bank, found)?;
+    let wanted = build(bank, wanted)?;
+    told(
+        bank,
+        env,
+        Cause::Term(TermCause::Mismatch(found, wanted)),
+        0,
+    )
+}
+
+/// Texts, parted by spaces.
+fn messages(alloc: Global, words: &str) -> Result<Vec<Text>, RowFault> {
+    let mut messages = Vec::new(alloc);
+    for word in words.split(' ') {
+        messages.push(Text::from_string(String::from_str(alloc, word)?))?;
+    }
+    Ok(messages)
+}
+
+/// The text of a failure with its level and its messages.
+fn failure_in(bank: &mut Bank<'_>, env: &mut Env, words: &str) -> Result<Text, RowFault>
+    requires { IsEnv bank.old env.old }
+{
+    let (level, messages) = match words.split_once(' ') {
+        Some((level, words)) => (level, messages(bank.allocator(), words)?),
+        None => (words, Vec::new(bank.allocator())),
+    };
+    let Ok(level) = level.parse::<u128>() else {
+        return Err(RowFault::Malformed);
+    };
+    told(bank, env, Cause::Ltac(LtacCause::Failure(messages)), level)
+}
+
+/// What a word asks, in a bank and an environment of its own.
+fn text(alloc: Global, word: &str, words: &str) -> Result<Text, RowFault> {
     let mut bank = Bank::new(alloc)?;
     let mut env = Env::new(alloc)?;
-    text_in(&mut bank, &mut env, words)
+    match word {
+        "text" => text_in(&mut bank, &mut env, words),
+        "long" => text_in(&mut bank, &mut env, words),
+        "print" => line_in(&mut bank, &mut env, words),
+        "mismatch" => mismatch_in(&mut bank, &mut env, words),
+        "failure" => failure_in(&mut bank, &mut env, words),
+        _ => Err(RowFault::Malformed),
+    }
 }
 
 /// What a row comes to.
@@ -99,10 +149,9 @@ pub(crate) fn answer(alloc: Global, line: &str) -> Result<String, RowFault> {
     let Some((word, words)) = line.split_once(' ') else {
         return Err(RowFault::Malformed);
     };
-    let told = text(alloc, words)?;
-    match word {
-        "text" => Ok(String::from_str(alloc, told.as_str())?),
-        "long" => Ok(format!(in alloc; "{} bytes", told.as_str().len())?),
-        _ => Err(RowFault::Malformed),
+    let told = text(alloc, word, words)?;
+    if word == "long" {
+        return Ok(format!(in alloc; "{} bytes", told.as_str().len())?);
     }
+    Ok(String::from_str(alloc, told.as_str().trim_end())?)
 }

@@ -14,13 +14,13 @@ use Rattle.lq_trees.specs.Index.{Within}
 use Rattle.lq_trees.specs.Same.{nameless, Same}
 use Rattle.lq_trees.specs.Size.{depth}
 use Rattle.lq_calculus.specs.Contraction.{hypothesis}
-use Rattle.lq_calculus.specs.Declarations.{Env, lookup, eliminator_name}
+use Rattle.lq_calculus.specs.Declarations.{Env, lookup}
 use Rattle.lq_calculus.proofs.ConvSound.{Gives}
 use Rattle.lq_ast.specs.Syntax.{Surface}
 use Rattle.lq_solving.specs.Stores.{Store}
 use Rattle.lq_solving.specs.Elaboration.{Site, Found, bind, elaborate, elaborate_call}
 use Rattle.lq_solving.proofs.FreshLaws.{fresh_new}
-use Rattle.lq_texts.specs.Printing.{uses, names_in, printed_name, bound_name, sort_surface, surface, constructor_name}
+use Rattle.lq_texts.specs.Printing.{uses, names_in, printed_name, bound_name, sort_surface, surface, constructor_name, eliminator_text}
 use Rattle.lq_texts.specs.ReadBack.{IsDeclared, globals}
 use Rattle.lq_texts.proofs.PrintedNames.{Held, held_left, held_right, or_true, or_first, or_second}
 use Rattle.lq_texts.proofs.Closing.{as_vars, NoEvar, same_self, rest_closed}
@@ -164,8 +164,8 @@ module _ (bound : ℕ) (env : Env) (outer : Context) (names : List Name) where
       let r = global_gives b g s w f (constructor_name env x j) fr.0 c.0 k in
       ap nameless (r.2 ∙ constructor_gives site s (constructor_name env x j) r.0 x j d.1 r.1)
   gives_back (Elim x u) v d h c n bs ys b g ar wi bd fr few small s w f k =
-      let r = global_gives b g s w f (eliminator_name x u) fr.0 c.0 k in
-      ap nameless (r.2 ∙ eliminator_gives site s (eliminator_name x u) r.0 x u d r.1)
+      let r = global_gives b g s w f (eliminator_text x u) fr.0 c.0 k in
+      ap nameless (r.2 ∙ eliminator_gives site s (eliminator_text x u) r.0 x u d r.1)
   gives_back (App t a) v d h c n bs ys b g ar wi bd fr few small s w f k =
       let r = applied_gives site b g s w f _ _ k in
       let e =

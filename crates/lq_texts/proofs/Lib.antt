@@ -38,3 +38,4 @@ mod TermRows
 mod FaultRows
 mod ViewRows
 mod AgainRows
+pub mod EliminatorNames

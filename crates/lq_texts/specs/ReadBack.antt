@@ -9,7 +9,7 @@ use Rattle.lq_trees.specs.Index.{Within}
 use Rattle.lq_trees.specs.Hypotheses.{HoldsOnly}
 use Rattle.lq_trees.specs.Size.{depth}
 use Rattle.lq_trees.specs.Fresh.{is_listed}
-use Rattle.lq_calculus.specs.Declarations.{Env, Entry, constant, family, constructor, eliminator, lookup, eliminator_name}
+use Rattle.lq_calculus.specs.Declarations.{Env, Entry, constant, family, constructor, eliminator, lookup}
 use Rattle.lq_grammar.specs.declared.token.TokenKind.TheVariants as kind
 use Rattle.lq_grammar.specs.Cells.{cells, over}
 use Rattle.lq_grammar.specs.Tokens.{found, word}
@@ -20,7 +20,7 @@ use Rattle.lq_ast.specs.Commands.{Sentence, stated, command, check}
 use Rattle.lq_sentences.specs.declared.fault.SyntaxFault.TheVariants.{TooNested, SentenceTooLong}
 use Rattle.lq_sentences.specs.Terms.{top_level}
 use Rattle.lq_sentences.specs.Reading.{read_sentence}
-use Rattle.lq_texts.specs.Printing.{term_text, surface, constructor_name, names_in}
+use Rattle.lq_texts.specs.Printing.{term_text, surface, constructor_name, names_in, eliminator_text}
 
 -- the name is one identifier of at most 200 bytes, and not reserved
 pub record IsPlainName (x : Name) : Type 0 where
@@ -63,7 +63,7 @@ IsPlain env (App f a) = IsPlain env f × IsPlain env a
 IsPlain env (Const c) = IsPlainName c
 IsPlain env (Ind c) = IsPlainName c
 IsPlain env (Ctor c k) = IsPlainName (constructor_name env c k)
-IsPlain env (Elim c s) = IsPlainName (eliminator_name c s)
+IsPlain env (Elim c s) = IsPlainName (eliminator_text c s)
 IsPlain env (Evar n ts) = ⊥
 
 -- each constant, family, constructor and eliminator of a term is an entry of that kind
@@ -78,7 +78,7 @@ IsDeclared env (App f a) = IsDeclared env f × IsDeclared env a
 IsDeclared env (Const c) = IsConstant (lookup env c)
 IsDeclared env (Ind c) = IsFamily (lookup env c)
 IsDeclared env (Ctor c k) = HasConstructor k (lookup env c) × (lookup env (constructor_name env c k) ≡ Some (constructor c k))
-IsDeclared env (Elim c s) = lookup env (eliminator_name c s) ≡ Some (eliminator c s)
+IsDeclared env (Elim c s) = lookup env (eliminator_text c s) ≡ Some (eliminator c s)
 IsDeclared env (Evar n ts) = Unit {0}
 
 -- the globals of a term, by their printed names
@@ -94,7 +94,7 @@ unfoldable mutual
   globals env (Const c) = c ∷ []
   globals env (Ind c) = c ∷ []
   globals env (Ctor c k) = constructor_name env c k ∷ []
-  globals env (Elim c s) = eliminator_name c s ∷ []
+  globals env (Elim c s) = eliminator_text c s ∷ []
   globals env (Evar n ts) = globals_in env ts
 
   pub globals_in : Env → Trees → List Name

@@ -1,12 +1,9 @@
-use Rattle.std.proofs.Common.{◌∙◌, ap, ◌++◌}
-use Rattle.lq_terms.specs.Terms.{text_of}
+use Rattle.std.proofs.Common.{◌∙◌}
 use Rattle.lq_print.proofs.VisitLaws.{on_ok, name_as}
 use Rattle.lq_print.proofs.visiting.put_eliminator.Goals as goal
 
 pub returns : goal.returns
 returns c =
     on_ok c.put_name.result c.put_name.ensures
-    (λ s. name_as c.args.bank.now c.args.spelling.now c.put_name.new.spelling _ _
-    (c.as_str.ensures.value ∙ c.in_ok-push_str.ensures.bytes ∙ ap (λ z. z ++ c.ending.result.now) (c.in_ok-text.ensures.ok ∙ c.text.ensures.text)
-    ∙ c.ending.ensures (text_of c.args.bank.now c.args.family))
+    (λ s. name_as c.args.bank.now c.args.spelling.now c.put_name.new.spelling _ _ (c.as_str.ensures.value ∙ c.in_ok-text.ensures)
     (s c.args.bank.now c.requires.spelling))

@@ -3,8 +3,7 @@ use Rattle.std.specs.List.{AllByRecursion}
 use Rattle.lq_terms.specs.declared.nodes.TermId.{TermId}
 use Rattle.lq_trees.specs.Tree.Tree.{Rel, Var, Sort, Const, Ind, Ctor, Elim, Evar}
 use Rattle.lq_terms.specs.Terms.{HasTerm, IsPart, text_of, tree_of, trees_by}
-use Rattle.lq_calculus.specs.Declarations.{eliminator_name}
-use Rattle.lq_texts.specs.Printing.{constructor_name}
+use Rattle.lq_texts.specs.Printing.{constructor_name, eliminator_text}
 use Rattle.lq_env.specs.Environments.{env_of}
 use Rattle.lq_print.specs.Spelling.{emit, put_name, put_bound, sort}
 use Rattle.lq_print.proofs.Lists.{all_weaker}
@@ -44,7 +43,7 @@ returns-in-Ctor c =
 pub returns-in-Elim : goal.returns-in-Elim
 returns-in-Elim c =
     on_ok c.put_eliminator.result c.put_eliminator.ensures
-    (λ s. turned_leaf c.args.bank.now (env_of c.args.bank.now c.args.env.now) c.args.work.now.items c.args.spelling.now c.put_eliminator.new.spelling (Elim (text_of c.args.bank.now c.in-Elim.family) c.in-Elim.sort) (tree_of c.args.bank.now c.args.term) (put_name (eliminator_name (text_of c.args.bank.now c.in-Elim.family) c.in-Elim.sort)) (rw c.in-Elim.is at c.node.ensures.tree) (λ z. refl) s)
+    (λ s. turned_leaf c.args.bank.now (env_of c.args.bank.now c.args.env.now) c.args.work.now.items c.args.spelling.now c.put_eliminator.new.spelling (Elim (text_of c.args.bank.now c.in-Elim.family) c.in-Elim.sort) (tree_of c.args.bank.now c.args.term) (put_name (eliminator_text (text_of c.args.bank.now c.in-Elim.family) c.in-Elim.sort)) (rw c.in-Elim.is at c.node.ensures.tree) (λ z. refl) s)
 
 pub returns-in-Prod : goal.returns-in-Prod
 returns-in-Prod c =
@@ -52,7 +51,7 @@ returns-in-Prod c =
     on_ok c.open.result (opened_ok c.open.result c.args.spelling.now c.open.new.spelling c.args.work.now.items c.open.new.work.items _ _ c.open.ensures.enters c.open.ensures.work)
     (λ s. turned_product c.args.bank.now (env_of c.args.bank.now c.args.env.now) c.args.work.now.items c.open.new.work.items c.args.spelling.now c.open.new.spelling (tree_of c.args.bank.now c.args.term)
     c.requires.spelling (s.0 c.args.bank.now c.requires.spelling) c.in-Prod.name parts.0 c.len-low.result (search rules) c.in-Prod.kind c.in-Prod.rest
-    (rw c.in-Prod.is at c.node.ensures.tree) parts.1.has parts.2.has c.requires.term.sorts s.1)
+    (rw c.in-Prod.is at c.node.ensures.tree) parts.1.has parts.2.has s.1)
 
 pub returns-in-Lam : goal.returns-in-Lam
 returns-in-Lam c =
@@ -60,7 +59,7 @@ returns-in-Lam c =
     on_ok c.open-in-Lam.result (opened_ok c.open-in-Lam.result c.args.spelling.now c.open-in-Lam.new.spelling c.args.work.now.items c.open-in-Lam.new.work.items _ _ c.open-in-Lam.ensures.enters c.open-in-Lam.ensures.work)
     (λ s. turned_function c.args.bank.now (env_of c.args.bank.now c.args.env.now) c.args.work.now.items c.open-in-Lam.new.work.items c.args.spelling.now c.open-in-Lam.new.spelling (tree_of c.args.bank.now c.args.term)
     c.requires.spelling (s.0 c.args.bank.now c.requires.spelling) c.in-Lam.name parts.0 c.len-low.result (search rules) c.in-Lam.kind c.in-Lam.rest
-    (rw c.in-Lam.is at c.node.ensures.tree) parts.1.has parts.2.has c.requires.term.sorts s.1)
+    (rw c.in-Lam.is at c.node.ensures.tree) parts.1.has parts.2.has s.1)
 
 pub returns-in-Let : goal.returns-in-Let
 returns-in-Let c =
@@ -68,14 +67,14 @@ returns-in-Let c =
     on_ok c.open-in-Let.result (opened_ok c.open-in-Let.result c.args.spelling.now c.open-in-Let.new.spelling c.args.work.now.items c.open-in-Let.new.work.items _ _ c.open-in-Let.ensures.enters c.open-in-Let.ensures.work)
     (λ s. turned_local c.args.bank.now (env_of c.args.bank.now c.args.env.now) c.args.work.now.items c.open-in-Let.new.work.items c.args.spelling.now c.open-in-Let.new.spelling (tree_of c.args.bank.now c.args.term)
     c.requires.spelling (s.0 c.args.bank.now c.requires.spelling) c.in-Let.name parts.0 c.len-low.result (search rules) c.in-Let.value c.in-Let.kind c.in-Let.rest
-    (rw c.in-Let.is at c.node.ensures.tree) parts.1.has parts.2.has parts.3.has c.requires.term.sorts s.1)
+    (rw c.in-Let.is at c.node.ensures.tree) parts.1.has parts.2.has parts.3.has s.1)
 
 pub returns-in-App : goal.returns-in-App
 returns-in-App c =
     let parts = rw c.in-App.is at c.node.ensures.parts in
     on_ok c.put_parts.result c.put_parts.ensures
     (λ s. turned_application c.args.bank.now (env_of c.args.bank.now c.args.env.now) c.args.work.now.items c.put_parts.new.work.items c.args.spelling.now (tree_of c.args.bank.now c.args.term)
-    c.requires.spelling c.in-App.function c.in-App.argument (rw c.in-App.is at c.node.ensures.tree) parts.0.has parts.1.has c.requires.term.sorts s)
+    c.requires.spelling c.in-App.function c.in-App.argument (rw c.in-App.is at c.node.ensures.tree) parts.0.has parts.1.has s)
 
 pub returns-in-Evar : goal.returns-in-Evar
 returns-in-Evar c =
@@ -86,4 +85,4 @@ returns-in-Evar c =
     (ap (λ (us : List TermId). Evar c.in-Evar.number (trees_by (tree_of c.args.bank.now) us)) c.terms.ensures ∙ rw c.in-Evar.is at c.node.ensures.tree)
     (subst (AllByRecursion (HasTerm c.args.bank.now)) (sym c.terms.ensures)
     (all_weaker (IsPart c.args.bank.now c.args.term) (HasTerm c.args.bank.now) (λ t h. h.has) c.in-Evar.parts parts))
-    c.requires.term.sorts (search rules) s)
+    (search rules) s)
