@@ -7,7 +7,8 @@ ghost use Rattle.lq_evars.specs.declared.scopes.Around.{Around};
 ghost use Rattle.lq_solving.specs.Stores.{reads_same};
 ghost use Rattle.lq_solving.specs.Kept.{IsStore};
 ghost use Rattle.lq_evars.specs.Places.{store_of, HasStore};
-ghost use Rattle.lq_evars.specs.Closures.{AreLinks, IsTermOver, HasClosure, depth_of, closure_tree, SettledClosure, beside, under, closure_parts, paired, HasPair};
+ghost use Rattle.lq_evars.specs.Closures.{AreLinks, IsTermOver, HasClosure, depth_of, closure_tree, SettledClosure, beside, under, closure_parts, paired};
+ghost use Rattle.lq_evars.specs.Closures.{HasPair};
 ghost use Rattle.lq_evars.specs.Closures.{IsShallow, same_pair, ComparesTo, first_pair};
 ghost use Rattle.lq_evars.specs.Noting.{AreSame, AreMarks};
 

@@ -12,7 +12,8 @@ ghost use Rattle.lq_states.specs.Views.{GoalView as TreeView, goal_view, goal_te
 ghost use Rattle.lq_states.specs.Views.{proof_view, fitting_root};
 ghost use Rattle.lq_states.specs.Kept.{IsListed};
 ghost use Rattle.lq_goals.specs.Held.{proof_of};
-ghost use Rattle.lq_goals.specs.Seen.{IsReadableOr, CanRead, ReadsAs, Shows, ShowsGoal, IsRoot, IsTree, IsBody, IsHypothesis, AreHypotheses, IsView, AreViews, IsProofView};
+ghost use Rattle.lq_goals.specs.Seen.{IsReadableOr, CanRead, ReadsAs, Shows, ShowsGoal, IsRoot, IsTree, IsBody, IsHypothesis, AreHypotheses, IsView};
+ghost use Rattle.lq_goals.specs.Seen.{AreViews, IsProofView};
 ghost use Rattle.lq_goals.specs.Seen.{body_terms, hypothesis_terms};
 
 use crate::proof::Proof;

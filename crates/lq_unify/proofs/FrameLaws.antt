@@ -38,7 +38,7 @@ module _ (old new : Terms) (g : Grows old new) where
   under_grown c None h = (refl, tt)
   under_grown c (Some u) h = (
     ap₂ (λ a b. sides (c ++ a) b (tree_of new u.pair.right) ∷ []) (context_of-grown old new g (u.variable ∷ []) (h.0, tt)) (g.tree u.pair.left h.1.0)
-    ∙ ap (λ b. sides (c ++ context_of old (u.variable ∷ [])) (tree_of old u.pair.left) b ∷ []) (g.tree u.pair.right h.1.1),
+        ∙ ap (λ b. sides (c ++ context_of old (u.variable ∷ [])) (tree_of old u.pair.left) b ∷ []) (g.tree u.pair.right h.1.1),
     ((HasContext-grown old new g (u.variable ∷ []) (h.0, tt)).0, (omega (arith, h.1.0, g.nodes), omega (arith, h.1.1, g.nodes))),
   )
 

@@ -1,6 +1,5 @@
 -- What comes next, and that it leads to the outcome of the call.
 use Rattle.std.specs.Prelude.{◌≡◌, ℕ, Bool, true, false, List, ◌∷◌, Option, Some, None, Result, Ok, Err}
-
 use Rattle.lq_trees.specs.Ticks.{done, steps_out, failed, ComesTo}
 use Rattle.lq_trees.specs.Rules.{Rules}
 use Rattle.lq_terms.specs.declared.nodes.Hypothesis.{Hypothesis}

@@ -12,8 +12,8 @@ mod inverting;
 mod pairs;
 mod parts;
 mod replacing;
-mod solving;
 mod resuming;
+mod solving;
 mod spines;
 mod splitting;
 

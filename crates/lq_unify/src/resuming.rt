@@ -37,11 +37,7 @@ fn shorten(context: &mut Context, mark: usize)
 }
 
 /// The next of the parts, once those before it were unified.
-fn next_part(
-    context: &mut Context,
-    frames: &mut Frames,
-    mut parts: Parts,
-) -> Result<Next, NoMemory>
+fn next_part(context: &mut Context, frames: &mut Frames, mut parts: Parts) -> Result<Next, NoMemory>
     ensures is { (bank : Terms) (s : Places) → parts.mark ≡ length context.old → IsWork bank s context.old (Frame.Parts parts ∷ frames.old)
         → IfOk result (IsNext bank s context.new frames.new) }
     ensures goes { (bank : Terms) (s : Places) (r : Rules) (f : ℕ → Unify Answer) (budget left : ℕ)

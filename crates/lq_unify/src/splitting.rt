@@ -54,11 +54,7 @@ fn variable_right(
 }
 
 /// The parts of a variable with arguments and an application, the variable on the left or else on the right.
-fn split_form(
-    bank: &mut Bank<'_>,
-    left: TermId,
-    right: TermId,
-) -> Result<Option<Form>, NoMemory>
+fn split_form(bank: &mut Bank<'_>, left: TermId, right: TermId) -> Result<Option<Form>, NoMemory>
     requires left { HasTerm bank.old left }
     requires right { HasTerm bank.old right }
     ensures form { (g : Context) → IfOk result (λ o. FormIs bank.new g o
