@@ -1,7 +1,7 @@
 -- Two terms whose heads are read: they stand, and lead on, as the terms that they come from.
-use Rattle.std.proofs.Common.{◌≡◌, ◌≤◌, ◌∙◌, ℕ, refl, sym, ap, ap₂, arith, Bool, List}
+use Rattle.std.proofs.Common.{◌≡◌, ◌∙◌, ℕ, sym, ap, arith, Bool, List}
 use Rattle.std.proofs.Common.{subst as along}
-use Rattle.lq_trees.specs.Tree.{Tree, Context}
+use Rattle.lq_trees.specs.Tree.{Tree}
 use Rattle.lq_trees.specs.Index.{Within}
 use Rattle.lq_trees.specs.Rules.{Rules}
 use Rattle.lq_terms.specs.declared.nodes.Hypothesis.{Hypothesis}
@@ -13,7 +13,7 @@ use Rattle.lq_solving.specs.Stores.{Store, names_in, read}
 use Rattle.lq_solving.specs.Kept.{IsOver, IsStore}
 use Rattle.lq_solving.specs.Unification.{Unify, Answer, sides}
 use Rattle.lq_evars.specs.Places.{Places, store_of, HasStore}
-use Rattle.lq_evars.proofs.Growing.{store_of-grown, HasStore-grown}
+use Rattle.lq_evars.proofs.Growing.{store_of-grown}
 use Rattle.lq_unify.specs.declared.pairs.Pair.{Pair}
 use Rattle.lq_unify.specs.declared.frames.Frame.{Frame}
 use Rattle.lq_unify.specs.Heads.{HasOpenHead}

@@ -1,5 +1,5 @@
 -- The parts of two terms of one form.
-use Rattle.std.proofs.Common.{◌≡◌, ◌≤◌, ◌∙◌, ℕ, zero, suc, refl, sym, ap, ap₂, arith, append-nil, List, [], ◌∷◌, ◌++◌, Bool, true, false, Option, Some, None}
+use Rattle.std.proofs.Common.{◌≡◌, ◌≤◌, ◌∙◌, ℕ, refl, sym, ap, ap₂, arith, append-nil, List, [], ◌∷◌, ◌++◌, Bool, true, false, Option, Some, None}
 use Rattle.std.proofs.Common.{subst as along}
 use Rattle.std.specs.List.{AllByRecursion}
 use Rattle.lq_trees.specs.Fresh.{fresh, opened, under, under_let}
@@ -14,7 +14,7 @@ use Rattle.lq_solving.specs.Unification.{Sides, sides, same_form, no_parts_if, a
 use Rattle.lq_unify.specs.declared.pairs.Pair.{Pair}
 use Rattle.lq_unify.specs.declared.forms.Form.{Form}
 use Rattle.lq_unify.specs.Pairs.{pairs_in, HasPair}
-use Rattle.lq_unify.specs.Forms.{under_in, HasUnder, IsFormOf, HasForm, FormIs, PairsAre, same_leaf}
+use Rattle.lq_unify.specs.Forms.{under_in, HasUnder, IsFormOf, FormIs, PairsAre, same_leaf}
 
 -- parts that are listed are the parts of the definition
 pub listed : (bank : Terms) (g : Context) (f : Form) (ps : List Sides) (o : Option (List Sides)) → IsFormOf bank g f ps → o ≡ Some ps → FormIs bank g (Some f) o

@@ -1,22 +1,22 @@
 -- Both weak head forms, and what follows them.
-use Rattle.std.proofs.Common.{◌≡◌, ◌∙◌, ℕ, suc, refl, sym, ap, ap₂, arith, Bool, true, false, ◌&&◌, List, Option, Some, None}
+use Rattle.std.proofs.Common.{◌≡◌, ◌∙◌, ℕ, suc, sym, ap, ap₂, arith, true, false, List, None}
 use Rattle.std.proofs.Common.{subst as along}
 use Rattle.std.proofs.Math.Path.{fun_ext}
 use Rattle.lq_trees.specs.Tree.{Tree, Context}
 use Rattle.lq_trees.specs.Rules.{Rules}
-use Rattle.lq_trees.specs.Ticks.{Paid, gives, ◌>>=◌, Outcome, done, failed, steps_out, ComesTo}
+use Rattle.lq_trees.specs.Ticks.{gives, ◌>>=◌, done, failed, steps_out, ComesTo}
 use Rattle.lq_trees.proofs.TickLaws.{bind_bind}
 use Rattle.lq_trees.proofs.Outcomes.{comes_then, comes_failed, comes_spent}
 use Rattle.lq_calculus.specs.Contraction.{whnf}
-use Rattle.lq_calculus.proofs.ConvSound.{Gives, gives_bind, done_gives}
+use Rattle.lq_calculus.proofs.ConvSound.{gives_bind, done_gives}
 use Rattle.lq_terms.specs.declared.nodes.TermId.{TermId}
 use Rattle.lq_terms.specs.Terms.{Terms, tree_of}
 use Rattle.lq_solving.specs.Stores.{Store, names_in, read, read_context}
 use Rattle.lq_solving.specs.Kept.{StandsIn, IsContext, IsStore}
 use Rattle.lq_solving.specs.Claims.{ArePlainRules}
-use Rattle.lq_solving.specs.Unification.{UnifyFault, Unify, Answer, Sides, sides, row, row_or, is_reduced, unify, unify_fitting}
-use Rattle.lq_solving.specs.Waiting.{Waiting, reducing, go_on, answered_work}
-use Rattle.lq_solving.proofs.WaitingLaws.{both_reduced, reduced_is}
+use Rattle.lq_solving.specs.Unification.{UnifyFault, Unify, Answer, Sides, sides, row, row_or, unify, unify_fitting}
+use Rattle.lq_solving.specs.Waiting.{Waiting, go_on, answered_work}
+use Rattle.lq_solving.proofs.WaitingLaws.{reduced_is}
 use Rattle.lq_solving.proofs.DoneLaws.{done_reads}
 use Rattle.lq_solving.proofs.Good.{IsGood, good_done}
 use Rattle.lq_solving.proofs.Later.{good_read, good_stands}

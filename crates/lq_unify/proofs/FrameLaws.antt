@@ -1,32 +1,27 @@
 -- What waits means the same in a bank that has grown, by more hypotheses, and in a store with more values.
-use Rattle.std.proofs.Common.{◌≡◌, ◌≤◌, ◌<◌, ◌+◌, ◌∙◌, ℕ, suc, refl, sym, ap, ap₂, arith, List, [], ◌∷◌, ◌++◌, map, length, take, drop, append-nil, Option, Some, None}
+use Rattle.std.proofs.Common.{◌≡◌, ◌≤◌, ◌∙◌, ℕ, refl, sym, ap, ap₂, arith, List, [], ◌∷◌, ◌++◌, length, take, drop, Option, Some, None}
 use Rattle.std.proofs.Common.{subst as along}
 use Rattle.std.specs.List.{AllByRecursion}
-use Rattle.std.proofs.lemmas.List.{take-take, take-append-le, length-take-le}
-use Rattle.std.proofs.Math.Seq.{take-length}
-use Rattle.lq_trees.specs.Tree.{Tree, Context}
+use Rattle.std.proofs.lemmas.List.{take-take, take-append-le}
+use Rattle.lq_trees.specs.Tree.{Context}
 use Rattle.lq_terms.specs.declared.nodes.Hypothesis.{Hypothesis}
-use Rattle.lq_terms.specs.declared.nodes.TermId.{TermId}
 use Rattle.lq_terms.specs.Terms.{Terms, HasTerm, Grows, tree_of}
 use Rattle.lq_terms.specs.Contexts.{HasContext, context_of}
 use Rattle.lq_terms.proofs.Tellings.{HasContext-grown, context_of-grown}
 use Rattle.lq_solving.specs.Stores.{Store}
 use Rattle.lq_solving.specs.Kept.{IsStore}
-use Rattle.lq_solving.specs.Unification.{Sides, sides}
+use Rattle.lq_solving.specs.Unification.{sides}
 use Rattle.lq_solving.specs.Waiting.{Waiting, parts, reducing}
-use Rattle.lq_solving.proofs.Later.{Later, now, later_trans}
-use Rattle.lq_evars.specs.Places.{Places, store_of, HasStore, GivesMore}
+use Rattle.lq_solving.proofs.Later.{Later, later_trans}
+use Rattle.lq_evars.specs.Places.{Places, store_of, HasStore}
 use Rattle.lq_evars.proofs.Growing.{store_of-grown, HasStore-grown}
-use Rattle.lq_unify.specs.declared.pairs.Pair.{Pair}
 use Rattle.lq_unify.specs.declared.pairs.Under.{Under}
 use Rattle.lq_unify.specs.declared.forms.Form.{Form}
 use Rattle.lq_unify.specs.declared.frames.Parts.{Parts}
-use Rattle.lq_unify.specs.declared.frames.Reducing.{Reducing}
 use Rattle.lq_unify.specs.declared.frames.Frame.{Frame}
-use Rattle.lq_unify.specs.Pairs.{pairs_in, HasPair}
+use Rattle.lq_unify.specs.Pairs.{HasPair}
 use Rattle.lq_unify.specs.Forms.{under_in, HasUnder, HasForm, form_in}
-use Rattle.lq_unify.specs.Standing.{SidesStand, AllStand}
-use Rattle.lq_unify.specs.Frames.{with_values, sides_in, parts_in, waits, AreNested, HasFrame, WaitingStand, IsWork}
+use Rattle.lq_unify.specs.Frames.{with_values, parts_in, waits, AreNested, HasFrame, WaitingStand, IsWork}
 use Rattle.lq_unify.proofs.ApplicationLaws.{all_take, all_drop}
 use Rattle.lq_unify.proofs.FormLaws.{pairs_grown, sides_grown}
 use Rattle.lq_unify.proofs.StandLaws.{all_keep}

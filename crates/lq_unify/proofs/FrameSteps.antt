@@ -1,23 +1,20 @@
 -- What waited nearest goes on with an answer.
-use Rattle.std.proofs.Common.{◌≡◌, ◌≤◌, ◌<◌, ◌+◌, ◌-◌, ◌∙◌, ℕ, zero, suc, refl, sym, ap, ap₂, arith, Bool, true, false, List, [], ◌∷◌, ◌++◌, map, length, take, drop, get_or, length-append, Option, Some, None, MatchOption}
+use Rattle.std.proofs.Common.{◌≡◌, ◌≤◌, ◌<◌, ◌+◌, ◌-◌, ◌∙◌, ℕ, zero, suc, refl, sym, ap, ap₂, arith, Bool, true, false, List, [], ◌∷◌, ◌++◌, length, take, drop, get_or, length-append, Option, Some, None, MatchOption}
 use Rattle.std.proofs.Common.{subst as along}
 use Rattle.std.specs.List.{AllByRecursion}
-use Rattle.std.proofs.lemmas.List.{take_all, drop_more, take-append-le, length-take-le, take-take, map-append}
+use Rattle.std.proofs.lemmas.List.{take_all, drop_more, take-append-le, length-take-le, map-append}
 use Rattle.std.proofs.Math.ListN.{drop_of_length-le}
 use Rattle.std.proofs.Math.Seq.{take-length}
-use Rattle.lq_trees.specs.Tree.{Tree, Context}
 use Rattle.lq_trees.specs.Rules.{Rules}
 use Rattle.lq_terms.specs.declared.nodes.Hypothesis.{Hypothesis}
 use Rattle.lq_terms.specs.Terms.{Terms, HasTerm, tree_of}
 use Rattle.lq_terms.specs.Contexts.{HasAllOf, HasContext, context_of, hypothesis_of}
-use Rattle.lq_solving.specs.Stores.{Store}
 use Rattle.lq_solving.specs.Kept.{IsStore}
-use Rattle.lq_solving.specs.Unification.{Unify, Answer, Sides, sides}
-use Rattle.lq_solving.specs.Waiting.{Waiting, parts, reducing}
-use Rattle.lq_evars.specs.Places.{Places, store_of, HasStore, GivesMore}
+use Rattle.lq_solving.specs.Unification.{Unify, Answer, sides}
+use Rattle.lq_solving.specs.Waiting.{parts, reducing}
+use Rattle.lq_evars.specs.Places.{Places, store_of, HasStore}
 use Rattle.lq_unify.specs.declared.pairs.Pair.{Pair}
 use Rattle.lq_unify.specs.declared.pairs.Under.{Under}
-use Rattle.lq_unify.specs.declared.forms.Form.{Form}
 use Rattle.lq_unify.specs.declared.frames.Parts.{Parts}
 use Rattle.lq_unify.specs.declared.frames.Reducing.{Reducing}
 use Rattle.lq_unify.specs.declared.frames.Frame.{Frame}
@@ -26,11 +23,11 @@ use Rattle.lq_unify.specs.Pairs.{pairs_in, HasPair}
 use Rattle.lq_unify.specs.Forms.{under_in, HasUnder, HasForm}
 use Rattle.lq_unify.specs.Standing.{SidesStand, AllStand}
 use Rattle.lq_unify.specs.Working.{IsAnswered, IsAsked, IsReducing}
-use Rattle.lq_unify.specs.Frames.{with_values, sides_in, parts_in, waits, AreNested, HasFrame, WaitingStand, IsWork, KeepsValues, IsSince, answer_of, mark_of, turns}
-use Rattle.lq_unify.specs.Turns.{PairStands, IsNext, HasAnswer, Goes}
-use Rattle.lq_unify.proofs.ApplicationLaws.{all_take, all_drop}
+use Rattle.lq_unify.specs.Frames.{with_values, sides_in, parts_in, waits, AreNested, WaitingStand, IsWork, IsSince, answer_of, mark_of}
+use Rattle.lq_unify.specs.Turns.{IsNext, HasAnswer, Goes}
+use Rattle.lq_unify.proofs.ApplicationLaws.{all_take}
 use Rattle.lq_unify.proofs.SpineLaws.{all_push}
-use Rattle.lq_unify.proofs.FrameLaws.{values_kept, SameUpTo, same_shorter, waits_hypotheses, waits_values, nested_more, waiting_keep}
+use Rattle.lq_unify.proofs.FrameLaws.{same_shorter, waits_hypotheses, waits_values, nested_more, waiting_keep}
 use Rattle.lq_unify.proofs.StepLaws.{next_is, none_left, skipped, passed, goes_back}
 
 -- ---- what is nearest takes its hypotheses alone

@@ -1,9 +1,7 @@
 -- Whether two terms are one variable.
-use Rattle.std.proofs.Common.{◌≡◌, ◌∙◌, ℕ, refl, sym, ap, ap₂, arith, Bool, true, false, eqb, List, map, Option, Some, None}
-use Rattle.std.proofs.Common.{subst as along}
-use Rattle.lq_trees.specs.Tree.{Tree, Trees, Context}
+use Rattle.std.proofs.Common.{◌≡◌, ◌∙◌, ℕ, refl, sym, ap, ap₂, arith, true, false, eqb, List, map, Option, None}
+use Rattle.lq_trees.specs.Tree.{Tree, Context}
 use Rattle.lq_trees.specs.Tree.Tree.{Rel, Var, Sort, Prod, Lam, Let, App, Const, Ind, Ctor, Elim, Evar}
-use Rattle.lq_trees.specs.Reading.{entries}
 use Rattle.lq_terms.specs.declared.nodes.TermId.{TermId}
 use Rattle.lq_terms.specs.Terms.{Terms, tree_of, trees_by}
 use Rattle.lq_solving.specs.Unification.{Sides, is_variable, one_variable, parts_of}

@@ -1,13 +1,12 @@
 -- No variable was solved: all is as before, in a bank that has grown.
-use Rattle.std.proofs.Common.{◌≡◌, ◌∙◌, ℕ, refl, sym, ap, ap₂, arith, Bool, List, [], ◌++◌, append-nil, append_assoc, Option, None}
+use Rattle.std.proofs.Common.{◌≡◌, ◌∙◌, ℕ, refl, sym, ap, ap₂, arith, Bool, true, false, List, [], ◌++◌, append-nil, append_assoc, Some, None}
 use Rattle.std.proofs.Common.{subst as along}
-use Rattle.lq_trees.specs.Tree.{Tree, Context}
 use Rattle.lq_trees.specs.Rules.{Rules}
 use Rattle.lq_terms.specs.declared.nodes.Hypothesis.{Hypothesis}
-use Rattle.lq_terms.specs.Terms.{Terms, HasTerm, Grows, tree_of}
+use Rattle.lq_terms.specs.Terms.{Terms, Grows, tree_of}
 use Rattle.lq_terms.specs.Contexts.{context_of}
 use Rattle.lq_terms.proofs.Tellings.{context_of-grown}
-use Rattle.lq_solving.specs.Stores.{Store, read}
+use Rattle.lq_solving.specs.Stores.{read}
 use Rattle.lq_solving.specs.Unification.{Unify, Answer, one_variable, by_solving}
 use Rattle.lq_evars.specs.Places.{Places, store_of, GivesMore}
 use Rattle.lq_evars.proofs.Growing.{store_of-grown}
@@ -64,3 +63,8 @@ more_since before s t fs m h = record {
 
 pub still_since : (before s t : Places) (fs : List Frame) → t ≡ s → IsSince before s fs → IsSince before t fs
 still_since before s t fs e h = along (λ z. IsSince before z fs) (sym e) h
+
+-- a No is no Yes
+pub not_yes : (b : Bool) → b ≡ false → Some b ≡ Some true → ⊥
+not_yes true e d = absurd (grind (arith, e))
+not_yes false e d = absurd (grind (arith, d))

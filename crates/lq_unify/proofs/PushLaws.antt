@@ -1,8 +1,8 @@
 -- One more that waits, by what a push says.
-use Rattle.std.proofs.Common.{◌≡◌, ◌≤◌, ◌+◌, ◌∙◌, ℕ, sym, ap, arith, Bool, true, false, List, ◌∷◌, ◌++◌, length, length-append, Result, Ok, Err, OnOk, OnErr}
+use Rattle.std.proofs.Common.{◌≡◌, ◌≤◌, ◌+◌, sym, ap, arith, Bool, true, false, List, ◌∷◌, length, length-append, Result, Ok, Err, OnOk, OnErr}
 use Rattle.std.proofs.Common.{subst as along}
 use Rattle.std.specs.List.{AllByRecursion}
-use Rattle.lq_evars.specs.Places.{Places, GivesMore}
+use Rattle.lq_evars.specs.Places.{Places}
 use Rattle.lq_unify.specs.declared.frames.Parts.{Parts}
 use Rattle.lq_unify.specs.declared.frames.Reducing.{Reducing}
 use Rattle.lq_unify.specs.declared.frames.Frame.{Frame}

@@ -1,43 +1,38 @@
 -- The rows lead on to the outcome of the call.
-use Rattle.std.proofs.Common.{◌≡◌, ◌≤◌, ◌<◌, ◌+◌, ◌^◌, ◌∙◌, ℕ, suc, refl, sym, ap, ap₂, arith, Bool, true, false, List, [], ◌∷◌, ◌++◌, map, length, take, drop, Option, Some, None, length-append, Result, Ok, Err, IfOk}
-use Rattle.std.specs.Prelude.{OnOk}
+use Rattle.std.proofs.Common.{◌≡◌, ◌<◌, ◌+◌, ◌^◌, ◌∙◌, ℕ, refl, sym, ap, ap₂, arith, Bool, true, false, List, ◌∷◌, length, take, Option, Some, None, length-append, Ok, Err}
 use Rattle.std.proofs.Common.{subst as along}
 use Rattle.std.specs.List.{AllByRecursion}
 use Rattle.std.proofs.Math.Seq.{take-length}
 use Rattle.lq_trees.specs.Tree.{Name, Tree, Context}
 use Rattle.lq_trees.specs.Hypotheses.{HoldsOnly}
 use Rattle.lq_trees.specs.Rules.{Rules}
-use Rattle.lq_trees.specs.Ticks.{gives, fails, ◌>>=◌, failed, done, steps_out, ComesTo}
 use Rattle.lq_terms.specs.declared.nodes.Hypothesis.{Hypothesis}
-use Rattle.lq_terms.specs.declared.nodes.TermId.{TermId}
-use Rattle.lq_terms.specs.Terms.{Terms, HasTerm, Grows, tree_of}
+use Rattle.lq_terms.specs.Terms.{Terms, Grows, tree_of}
 use Rattle.lq_terms.specs.Contexts.{HasContext, context_of, hypothesis_of}
 use Rattle.std.proofs.lemmas.List.{length-map}
 use Rattle.lq_terms.proofs.Tellings.{context_of-grown}
-use Rattle.lq_solving.specs.Stores.{Store, read, read_context}
+use Rattle.lq_solving.specs.Stores.{Store, read}
 use Rattle.lq_trees.specs.Index.{Within}
-use Rattle.lq_solving.specs.Kept.{IsStore, IsOver, Stands, StandsIn}
-use Rattle.lq_solving.specs.Unification.{Unify, Answer, Sides, sides, one_variable, by_solving, parts_by_form, is_variable, unify_too_large, unify_too_deep}
+use Rattle.lq_solving.specs.Kept.{IsStore, IsOver, Stands}
+use Rattle.lq_solving.specs.Unification.{Unify, Answer, Sides, sides, one_variable, by_solving, parts_by_form, unify_too_large, unify_too_deep}
 use Rattle.lq_solving.specs.Waiting.{Waiting, parts, reducing}
-use Rattle.lq_solving.proofs.Later.{Later, now, later_store}
+use Rattle.lq_solving.proofs.Later.{Later, now}
 use Rattle.lq_evars.specs.Places.{Places, store_of, HasStore, GivesMore}
-use Rattle.lq_evars.proofs.Growing.{store_of-grown, HasStore-grown}
+use Rattle.lq_evars.proofs.Growing.{store_of-grown}
 use Rattle.lq_unify.specs.declared.faults.UnifyFault.{UnifyFault}
 use Rattle.lq_unify.specs.declared.pairs.Pair.{Pair}
 use Rattle.lq_unify.specs.declared.forms.Form.{Form}
 use Rattle.lq_unify.specs.declared.frames.Parts.{Parts}
 use Rattle.lq_unify.specs.declared.frames.Reducing.{Reducing}
 use Rattle.lq_unify.specs.declared.frames.Frame.{Frame}
-use Rattle.lq_unify.specs.declared.resuming.Next.{Next}
 use Rattle.lq_unify.specs.Heads.{HasOpenHead}
-use Rattle.lq_unify.specs.Exposing.{IsOfStore}
 use Rattle.lq_unify.specs.Pairs.{HasPair}
-use Rattle.lq_unify.specs.Forms.{HasForm, FormIs, form_in}
+use Rattle.lq_unify.specs.Forms.{HasForm, form_in}
 use Rattle.lq_unify.specs.Standing.{SidesStand, AllStand}
-use Rattle.lq_unify.specs.Working.{IsAnswered, IsAsked, IsReducing, IsRowed}
+use Rattle.lq_unify.specs.Working.{IsAnswered, IsReducing, IsRowed}
 use Rattle.lq_unify.specs.Solving.{SolvesOr, GivesOn}
-use Rattle.lq_unify.specs.Frames.{with_values, sides_in, parts_in, waits, AreNested, HasFrame, WaitingStand, IsWork, KeepsValues, IsSince, answer_of}
-use Rattle.lq_unify.specs.Turns.{PairStands, IsNext, HasAnswer, Goes, Stops, Turned, NoRow, looked}
+use Rattle.lq_unify.specs.Frames.{with_values, sides_in, parts_in, waits, HasFrame, WaitingStand, IsWork}
+use Rattle.lq_unify.specs.Turns.{PairStands, HasAnswer, Stops, NoRow, looked}
 use Rattle.lq_unify.proofs.FrameLaws.{waits_grown, work_grown, SameUpTo, same_longer, waits_values, nested_more, waiting_keep}
 use Rattle.lq_unify.proofs.FrameSteps.{full, parts_wait}
 use Rattle.lq_unify.proofs.StandLaws.{form_stands, one_stands}

@@ -1,11 +1,11 @@
 -- The parts of a variable with arguments and an application.
-use Rattle.std.proofs.Common.{◌≡◌, ◌∙◌, refl, sym, ap, ap₂, arith, Bool, true, false, List, [], ◌∷◌, map, length, Option, Some, None}
+use Rattle.std.proofs.Common.{◌≡◌, ◌∙◌, refl, sym, ap, ap₂, arith, true, false, List, [], ◌∷◌, map, Option, Some, None}
 use Rattle.std.proofs.Common.{subst as along}
 use Rattle.std.specs.Prelude.{option_map, IfSome}
 use Rattle.std.specs.List.{AllByRecursion}
 use Rattle.lq_trees.specs.Tree.{Tree, Context}
 use Rattle.lq_terms.specs.declared.nodes.TermId.{TermId}
-use Rattle.lq_terms.specs.Terms.{Terms, HasTerm, Grows, tree_of}
+use Rattle.lq_terms.specs.Terms.{Terms, Grows, tree_of}
 use Rattle.lq_terms.proofs.Growth.{has-grown}
 use Rattle.lq_solving.specs.Unification.{Sides, parts_of, split_left, split_right, first_some, same_form, parts_by_form}
 use Rattle.lq_calculus.specs.Contraction.{spine}

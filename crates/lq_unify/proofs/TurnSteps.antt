@@ -1,23 +1,21 @@
 -- One turn leads on to the outcome of the call.
-use Rattle.std.proofs.Common.{◌≡◌, ◌≤◌, ◌<◌, ◌+◌, ◌∙◌, ℕ, suc, refl, sym, ap, ap₂, arith, Bool, true, false, List, [], ◌∷◌, map, length, Option, Some, None, Err}
+use Rattle.std.proofs.Common.{◌≡◌, ◌+◌, ℕ, suc, sym, arith, true, false, List, [], None, Err}
 use Rattle.std.proofs.Common.{subst as along}
-use Rattle.std.specs.List.{AllByRecursion}
 use Rattle.lq_trees.specs.Tree.{Tree, Context}
 use Rattle.lq_trees.specs.Rules.{Rules}
-use Rattle.lq_trees.specs.Ticks.{done, failed, steps_out, ComesTo}
+use Rattle.lq_trees.specs.Ticks.{done, ComesTo}
 use Rattle.lq_terms.specs.declared.nodes.Hypothesis.{Hypothesis}
 use Rattle.lq_terms.specs.declared.nodes.TermId.{TermId}
 use Rattle.lq_terms.specs.Terms.{Terms, HasTerm, Grows, tree_of}
-use Rattle.lq_terms.specs.Contexts.{HasContext, context_of}
+use Rattle.lq_terms.specs.Contexts.{context_of}
 use Rattle.lq_terms.specs.Telling.{Telling}
 use Rattle.lq_terms.proofs.Growth.{Grows-trans}
 use Rattle.lq_terms.proofs.Tellings.{HasTelling-grown, context_of-grown}
 use Rattle.lq_solving.specs.Stores.{Store, read, read_context}
-use Rattle.lq_solving.specs.Kept.{StandsIn, IsContext, IsStore}
 use Rattle.lq_solving.specs.Claims.{ArePlainRules}
 use Rattle.lq_solving.specs.Unification.{Unify, Answer, Sides, sides, unify_too_large, unify_too_deep}
 use Rattle.lq_solving.specs.Waiting.{Waiting}
-use Rattle.lq_evars.specs.Places.{Places, store_of, HasStore}
+use Rattle.lq_evars.specs.Places.{Places, store_of}
 use Rattle.lq_evars.proofs.Growing.{store_of-grown}
 use Rattle.lq_unify.specs.declared.faults.UnifyFault.{UnifyFault}
 use Rattle.lq_unify.specs.declared.pairs.Pair.{Pair}
@@ -25,11 +23,11 @@ use Rattle.lq_unify.specs.declared.frames.Frame.{Frame}
 use Rattle.lq_unify.specs.declared.resuming.Next.{Next}
 use Rattle.lq_unify.specs.Standing.{SidesStand}
 use Rattle.lq_unify.specs.Working.{IsAnswered, IsAsked, IsReducing, IsRowed}
-use Rattle.lq_unify.specs.Reducing.{both_forms, Unchanged, Changed, Forms}
+use Rattle.lq_unify.specs.Reducing.{Unchanged, Changed, Forms}
 use Rattle.lq_unify.specs.Telling.{TellsOn, HasRules}
-use Rattle.lq_unify.specs.Frames.{sides_in, waits, HasFrame, IsWork, answer_of}
-use Rattle.lq_unify.specs.Turns.{PairStands, IsNext, HasAnswer, Goes, Stops, Unifies, IsAnswer, said_by}
-use Rattle.lq_unify.proofs.FrameLaws.{waits_grown, work_grown}
+use Rattle.lq_unify.specs.Frames.{sides_in, waits, IsWork, answer_of}
+use Rattle.lq_unify.specs.Turns.{PairStands, HasAnswer, Goes, Stops, IsAnswer, said_by}
+use Rattle.lq_unify.proofs.FrameLaws.{waits_grown}
 use Rattle.lq_unify.proofs.StepLaws.{unpaid_is, paid_is, ended}
 use Rattle.lq_unify.proofs.FormTurns.{forms_out, forms_fail, unchanged_is, changed_is, both_read, both_stand}
 

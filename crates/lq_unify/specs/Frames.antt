@@ -1,5 +1,5 @@
 -- What waits for an answer, and what it stands for.
-use Rattle.std.specs.Prelude.{◌≡◌, ◌≤◌, ◌+◌, ℕ, Bool, true, false, List, [], ◌∷◌, ◌++◌, length, take, drop, Option, Some, None}
+use Rattle.std.specs.Prelude.{◌≤◌, ◌+◌, ℕ, Bool, true, false, List, [], ◌∷◌, ◌++◌, length, take, drop, Some, None}
 use Rattle.std.specs.List.{AllByRecursion}
 use Rattle.lq_trees.specs.Tree.{Context}
 use Rattle.lq_terms.specs.declared.nodes.Hypothesis.{Hypothesis}
@@ -13,7 +13,6 @@ use Rattle.lq_solving.proofs.Later.{Later}
 use Rattle.lq_evars.specs.Places.{Places, store_of, HasStore, GivesMore}
 use Rattle.lq_unify.specs.declared.pairs.Pair.{Pair}
 use Rattle.lq_unify.specs.declared.frames.Parts.{Parts}
-use Rattle.lq_unify.specs.declared.frames.Reducing.{Reducing}
 use Rattle.lq_unify.specs.declared.frames.Frame.{Frame}
 use Rattle.lq_unify.specs.Pairs.{pairs_in, HasPair}
 use Rattle.lq_unify.specs.Forms.{under_in, HasForm}

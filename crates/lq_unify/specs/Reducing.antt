@@ -5,7 +5,7 @@ use Rattle.lq_trees.specs.Ticks.{gives, ◌>>=◌, done, failed, steps_out, Come
 use Rattle.lq_trees.specs.Rules.{Rules}
 use Rattle.lq_calculus.specs.Contraction.{whnf}
 use Rattle.lq_terms.specs.declared.nodes.TermId.{TermId}
-use Rattle.lq_terms.specs.Terms.{Terms, HasTerm, tree_of}
+use Rattle.lq_terms.specs.Terms.{Terms, tree_of}
 use Rattle.lq_solving.specs.Unification.{Unify, is_reduced, unify_fitting, unify_too_large, unify_too_deep}
 use Rattle.lq_unify.specs.declared.faults.UnifyFault.{UnifyFault}
 

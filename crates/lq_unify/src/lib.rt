@@ -2,6 +2,7 @@
 #![tactic(auto)]
 
 mod applications;
+mod asking;
 mod exposing;
 mod faults;
 mod forms;
@@ -16,5 +17,6 @@ mod resuming;
 mod solving;
 mod spines;
 mod splitting;
+mod turns;
 
 pub use faults::UnifyFault;

@@ -1,4 +1,4 @@
-use Rattle.std.proofs.Common.{arith, sym, refl, [], IfOk}
+use Rattle.std.proofs.Common.{arith, sym, IfOk}
 use Rattle.std.proofs.Common.{subst as along}
 use Rattle.lq_terms.specs.Contexts.{context_of}
 use Rattle.lq_terms.specs.declared.nodes.Node.{Node}

@@ -1,4 +1,4 @@
-use Rattle.std.proofs.Common.{◌≡◌, ◌∙◌, sym, ap₂, map}
+use Rattle.std.proofs.Common.{◌∙◌, sym, ap₂, map}
 use Rattle.std.proofs.Common.{subst as along}
 use Rattle.std.specs.List.{AllByRecursion}
 use Rattle.lq_terms.specs.declared.nodes.Node.{Node}
