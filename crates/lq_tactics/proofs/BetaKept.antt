@@ -89,7 +89,7 @@ module _ (vs : List Variable) (as_ : List Assigned) (xs : List Name) where
 
   -- ---- contracted
 
-  beta_good : (n : ℕ) (f a u : Tree) → Good n f → Good n a → beta f a ≡ Some u → Good n u
+  pub beta_good : (n : ℕ) (f a u : Tree) → Good n f → Good n a → beta f a ≡ Some u → Good n u
   unfolding beta
   beta_good n (Lam x A t) a u g h e = along (Good n) (ap (λ o. elim o as (λ z. Tree) [ Some z ↦ z | None ↦ u ]) e) (subst_open_good n a t h g.1)
   beta_good n (Rel i) a u g h e = absurd (grind (arith, e))

@@ -14,6 +14,7 @@ pub mod HypothesesKept
 pub mod RetypingKept
 pub mod TelescopesKept
 pub mod ElimKept
+pub mod ComputeKept
 pub mod RewriteKept
 pub mod RenameKept
 pub mod RulesKept

@@ -1,4 +1,4 @@
--- The primitives of the second table keep what holds of a proof: all but `induction`, `destruct` and `compute`.
+-- The primitives of the second table keep what holds of a proof: all but `induction` and `destruct`.
 use Rattle.std.proofs.Common.{◌≡◌, ◌<◌, ◌+◌, ◌^◌, ◌∙◌, ℕ, suc, refl, sym, ap, arith, true, false, length}
 use Rattle.std.proofs.Common.{subst as along}
 use Rattle.lq_trees.specs.Ticks.{◌>>=◌, within, done}
@@ -26,14 +26,15 @@ use Rattle.lq_tactics.proofs.HypothesesKept.{clear_reached, revert_reached}
 use Rattle.lq_tactics.proofs.RenameKept.{rename_reached}
 use Rattle.lq_tactics.proofs.RetypingKept.{hnf_reached, unfold_reached, change_reached, generalize_reached}
 use Rattle.lq_tactics.proofs.ElimKept.{elim_reached}
+use Rattle.lq_tactics.proofs.ComputeKept.{compute_reached}
 use Rattle.lq_tactics.proofs.RewriteKept.{rewrite_reached}
 use Rattle.lq_tactics.proofs.PrimsKept.{LeavesRoom}
 
--- rules that are one row, without a normal form
+-- rules that are one row
 abbrev pub IsOneRow : Rule → Type 0
 IsOneRow (induction x names) = ⊥
 IsOneRow (destruct t names) = ⊥
-IsOneRow compute = ⊥
+IsOneRow compute = Unit {0}
 IsOneRow (elimination_of t) = Unit {0}
 IsOneRow (rewrite t) = Unit {0}
 IsOneRow (rewrite_back t) = Unit {0}
@@ -64,7 +65,7 @@ rule_kept c (rewrite_back t) st o s few y = ended_kept c (do_rewrite c false t) 
 rule_kept c (unfold_constant x) st o s few y = ended_kept c (do_unfold c x ((rules c).delta x)) st s (λ d z. unfold_reached c s x ((rules c).delta x) d refl z) y
 rule_kept c (change A) st o s few y = ended_kept c (do_change c A) st s (λ d z. change_reached c s A d few z) y
 rule_kept c hnf st o s few y = ended_kept c (head_of c c.store c.kind >>= retyped c c.store) st s (λ d z. hnf_reached c s d z) y
-rule_kept c compute st o s few y = absurd o
+rule_kept c compute st o s few y = ended_kept c _ st s (λ d z. compute_reached c s d z) y
 rule_kept c (clear x) st o s few y = ended_kept c (do_clear c x) st s (λ d z. clear_reached c s x d z) y
 rule_kept c (rename x z) st o s few y = ended_kept c (do_rename c x z) st s (λ d w. rename_reached c s x z d w) y
 rule_kept c (revert x) st o s few y = ended_kept c (do_revert c x) st s (λ d z. revert_reached c s x d z) y
