@@ -7,3 +7,5 @@ pub mod EndLaws
 pub mod NodeLaws
 pub mod FrameLaws
 pub mod KindLaws
+pub mod PlainTerms
+pub mod PlainFamilies
