@@ -9,3 +9,5 @@ pub mod FrameLaws
 pub mod KindLaws
 pub mod PlainTerms
 pub mod PlainFamilies
+pub mod PlainSubjects
+pub mod PlainDeclarations
