@@ -1,27 +1,31 @@
 -- Declaring keeps declarations plain.
-use Rattle.std.proofs.Common.{◌≡◌, ℕ, zero, suc, refl, sym, ◌∙◌, ap, arith, Bool, true, false, if◌then◌else◌, List, [], ◌∷◌, ◌++◌, map, length, Option, Some, None, ◌⊎◌, inl, inr}
+use Rattle.std.proofs.Common.{◌≡◌, ℕ, suc, refl, ◌∙◌, ap, arith, Bool, true, false, if◌then◌else◌, List, [], ◌∷◌, ◌++◌, map, length, Option, Some}
+use Rattle.std.proofs.Common.{None, ◌⊎◌, inl, inr}
 use Rattle.std.proofs.Common.{subst as along}
 use Rattle.std.specs.List.{AllByRecursion}
 use Rattle.lq_trees.specs.declared.Sort.{Sort as Universe}
 use Rattle.lq_trees.specs.Tree.{Name, Tree, Trees, Context, same_name, none, more}
 use Rattle.lq_trees.specs.Tree.Tree.{Rel, Var, Sort, Prod, Lam, Let, App, Const, Ind, Ctor, Elim, Evar}
 use Rattle.lq_trees.specs.Fresh.{is_listed}
-use Rattle.lq_trees.specs.Index.{Within}
 use Rattle.lq_trees.specs.Hypotheses.{HoldsOnly, EachHoldsOnly}
-use Rattle.lq_trees.specs.Rules.{Counts, Arguments, Rules}
-use Rattle.lq_trees.specs.Ticks.{Paid, fails, ◌>>=◌}
-use Rattle.lq_calculus.specs.Declarations.{Env, Entry, Family, lookup, constant, family, arity, constructor, eliminator, eliminator_name, sorts, family_type, constructor_kind, permits, elim_type, rules_of, rule_arguments, counts_of, delta_in, family_in, constructor_entries, family_entries, permitted, first_taken, names_of, declared_names, constructors_fault, first_stored, stored_types, first_fault}
-use Rattle.lq_calculus.specs.Typing.{Derives, ContextHas, no_more, one_more, ConstructorsHave, no_constructor, one_constructor}
-use Rattle.lq_calculus.specs.Checking.{KernelFault, unbound, strange, strange_in, known, known_context, no_env_fault, sort_of, check, declare_constant, sorts_of, check_constructors, declare_family}
+use Rattle.lq_trees.specs.Rules.{Counts, Arguments}
+use Rattle.lq_trees.specs.Ticks.{fails}
+use Rattle.lq_calculus.specs.Declarations.{Env, Entry, Family, lookup, constant, family, arity, constructor, eliminator, eliminator_name, sorts, family_type}
+use Rattle.lq_calculus.specs.Declarations.{constructor_kind, permits, elim_type, rules_of, rule_arguments, counts_of, delta_in, family_in, constructor_entries}
+use Rattle.lq_calculus.specs.Declarations.{family_entries, permitted, first_taken, names_of, declared_names, constructors_fault, first_stored, stored_types}
+use Rattle.lq_calculus.specs.Declarations.{first_fault}
+use Rattle.lq_calculus.specs.Typing.{Derives, ContextHas, one_more, ConstructorsHave, one_constructor}
+use Rattle.lq_calculus.specs.Checking.{KernelFault, unbound, strange, strange_in, known, known_context, no_env_fault, sort_of, check, declare_constant}
+use Rattle.lq_calculus.specs.Checking.{sorts_of, check_constructors, declare_family}
 use Rattle.lq_calculus.proofs.ConvSound.{Gives, gives_bind}
 use Rattle.lq_calculus.proofs.InferSound.{check_derives}
 use Rattle.lq_calculus.proofs.DeclareSound.{sort_of_derives, context_has, constructors_have}
 use Rattle.lq_solving.specs.Stores.{names_in}
-use Rattle.lq_solving.specs.Kept.{IsOver}
 use Rattle.lq_solving.specs.Claims.{IsPlain, ArePlain, ArePlainRules, ArePlainDeclarations}
 use Rattle.lq_elab.proofs.PlainTerms.{IsBare, bare, bare_plain}
-use Rattle.lq_elab.proofs.PlainFamilies.{BareBehind, behind_left, behind_right, AreConstructors, IsBareFamily, plain_family_type, plain_constructor, plain_elim_type, plain_rule}
-use Rattle.lq_elab.proofs.PlainSubjects.{IsWhole, derived_whole}
+use Rattle.lq_elab.proofs.PlainFamilies.{BareBehind, behind_left, behind_right, AreConstructors, IsBareFamily, plain_family_type, plain_constructor}
+use Rattle.lq_elab.proofs.PlainFamilies.{plain_elim_type, plain_rule}
+use Rattle.lq_elab.proofs.PlainSubjects.{derived_whole}
 
 -- a term whose look for strange names finds none
 none_then : (a b : Option Name) → ◌≡◌ {A = Option Name} (elim a [ Some y ↦ Some y | None ↦ b ]) None → (a ≡ None) × (b ≡ None)
@@ -59,7 +63,8 @@ pub known_holds : (g : Context) (t : Tree) (ts : List Tree) (ok : Unit {0}) → 
 unfolding known
 known_holds g t ts ok h = at (strange (names_in g) t) refl h
   where
-    at : (o : Option Name) → strange (names_in g) t ≡ o → Gives {F = KernelFault} (elim o [ Some x ↦ fails (unbound x) | None ↦ known g ts ]) ok → HoldsOnly (names_in g) t × Gives (known g ts) ok
+    at : (o : Option Name) → strange (names_in g) t ≡ o → Gives {F = KernelFault} (elim o [ Some x ↦ fails (unbound x) | None ↦ known g ts ]) ok →
+        HoldsOnly (names_in g) t × Gives (known g ts) ok
     at None e k = (strange_none (names_in g) t e, k)
     at (Some x) e k = absurd k
 
@@ -89,6 +94,7 @@ pub record IsPlainFamily (f : Family) (ss : List Universe) : Type 0 where
   pub eliminators : (u : Universe) → permits ss u ≡ true → IsPlain 0 (elim_type f u)
   pub arguments : (k : ℕ) (rs : Arguments) → rule_arguments f k ≡ Some rs → ArePlain (length f.parameters) rs
 
+-- an entry whose types name no variable and no hypothesis, and whose body, where it is transparent
 abbrev pub IsPlainEntry : Entry → Type 0
 IsPlainEntry (constant A t opaque) = IsPlain 0 A × (opaque ≡ false → IsPlain 0 t)
 IsPlainEntry (family f ss) = IsPlainFamily f ss
@@ -96,6 +102,11 @@ IsPlainEntry (arity A) = IsPlain 0 A
 IsPlainEntry (constructor c k) = Unit {0}
 IsPlainEntry (eliminator c s) = Unit {0}
 
+-- each entry of a list
+abbrev pub AllPlain : Env → Type 0
+AllPlain es = AllByRecursion {X = Name × Entry} (λ p. IsPlainEntry p.1) es
+
+-- each entry that a name has
 abbrev pub ArePlainEntries : Env → Type 0
 ArePlainEntries env = (x : Name) (e : Entry) → lookup env x ≡ Some e → IsPlainEntry e
 
@@ -168,7 +179,8 @@ pub lookup_joined : (env es : Env) (x : Name) (e : Entry) → lookup (env ++ es)
 lookup_joined [] es x e h = inr h
 lookup_joined (p ∷ env) es x e h = at (same_name x p.0) h (λ f. lookup_joined env es x e f)
   where
-    at : (b : Bool) → (if b then Some p.1 else lookup (env ++ es) x) ≡ Some e → (lookup (env ++ es) x ≡ Some e → (lookup env x ≡ Some e) ⊎ (lookup es x ≡ Some e)) →
+    at : (b : Bool) → (if b then Some p.1 else lookup (env ++ es) x) ≡ Some e →
+        (lookup (env ++ es) x ≡ Some e → (lookup env x ≡ Some e) ⊎ (lookup es x ≡ Some e)) →
         ((if b then Some p.1 else lookup env x) ≡ Some e) ⊎ (lookup es x ≡ Some e)
     at true f ih = inl f
     at false f ih = ih f
@@ -176,7 +188,7 @@ lookup_joined (p ∷ env) es x e h = at (same_name x p.0) h (λ f. lookup_joined
 pub entries_joined : (env es : Env) → ArePlainEntries env → ArePlainEntries es → ArePlainEntries (env ++ es)
 entries_joined env es p q x e h = elim (lookup_joined env es x e h) [ inl f ↦ p x e f | inr f ↦ q x e f ]
 
-pub entries_of : (es : Env) → AllByRecursion {X = Name × Entry} (λ p. IsPlainEntry p.1) es → ArePlainEntries es
+pub entries_of : (es : Env) → AllPlain es → ArePlainEntries es
 entries_of [] all x e h = absurd (grind arith)
 entries_of (p ∷ es) all x e h = at (same_name x p.0) h (λ f. entries_of es all.1 x e f)
   where
@@ -184,7 +196,8 @@ entries_of (p ∷ es) all x e h = at (same_name x p.0) h (λ f. entries_of es al
     at true f ih = along IsPlainEntry (ap (λ o. elim o [ Some z ↦ z | None ↦ e ]) f) all.0
     at false f ih = ih f
 
-pub declarations_joined : (env es : Env) → ArePlainDeclarations env → AllByRecursion {X = Name × Entry} (λ p. IsPlainEntry p.1) es → ArePlainDeclarations (env ++ es)
+pub declarations_joined : (env es : Env) → ArePlainDeclarations env → AllPlain es →
+    ArePlainDeclarations (env ++ es)
 declarations_joined env es p all = plain_declarations (env ++ es) (entries_joined env es (plain_entries env p) (entries_of es all))
 
 -- no declaration
@@ -203,8 +216,13 @@ constant_plain env n x A t opaque new p h =
     let k = known_holds [] A (t ∷ []) b.0 b.1 in
     let l = known_holds [] t [] b.0 k.1 in
     along ArePlainDeclarations c.2
-    (declarations_joined env ((x, constant A t opaque) ∷ []) p
-    ((bare_plain 0 A (bare_derived (sort_of_derives env n [] A s.0 s.1) [] k.0), λ o. bare_plain 0 t (bare_derived (check_derives env n [] t A c.0 c.1) [] l.0)), tt))
+    (declarations_joined env ((x, constant A t opaque) ∷ []) p (
+      (
+        bare_plain 0 A (bare_derived (sort_of_derives env n [] A s.0 s.1) [] k.0),
+        λ o. bare_plain 0 t (bare_derived (check_derives env n [] t A c.0 c.1) [] l.0),
+      ),
+      tt,
+    ))
 
 -- the entries of a family
 pub bare_family : (f : Family) (ss : List Universe) → IsBareFamily f → IsPlainFamily f ss
@@ -215,15 +233,16 @@ bare_family f ss b = record {
   arguments = λ k rs e. plain_rule f b k rs e;
 }
 
-family_entries_plain : (f : Family) (ss : List Universe) → IsBareFamily f → AllByRecursion {X = Name × Entry} (λ p. IsPlainEntry p.1) (family_entries f ss)
+family_entries_plain : (f : Family) (ss : List Universe) → IsBareFamily f → AllPlain (family_entries f ss)
 unfolding family_entries constructor_entries
 family_entries_plain f ss b = (bare_family f ss b, behind f.constructors 0)
   where
-    last : (us : List Universe) → AllByRecursion {X = Name × Entry} (λ p. IsPlainEntry p.1) (map (λ s. (eliminator_name f.name s, eliminator f.name s)) us)
+    last : (us : List Universe) → AllPlain (map (λ s. (eliminator_name f.name s, eliminator f.name s)) us)
     last [] = tt
     last (u ∷ us) = (tt, last us)
 
-    behind : (cs : List (Name × Tree)) (k : ℕ) → AllByRecursion {X = Name × Entry} (λ p. IsPlainEntry p.1) (constructor_entries f.name k cs ++ map (λ s. (eliminator_name f.name s, eliminator f.name s)) sorts)
+    behind : (cs : List (Name × Tree)) (k : ℕ) →
+        AllPlain (constructor_entries f.name k cs ++ map (λ s. (eliminator_name f.name s, eliminator f.name s)) sorts)
     behind [] k = last sorts
     behind (c ∷ cs) k = (tt, behind cs (suc k))
 
@@ -244,5 +263,7 @@ family_plain env n f new p h =
     (record {
       parameters = behind_left [] f.parameters f.indices whole;
       indices = behind_right [] f.parameters f.indices whole;
-      constructors = bare_constructors (env ++ ((f.name, arity (family_type f)) ∷ [])) f.parameters f.sort f.constructors k.0 c.0 c.1 (constructors_have (env ++ ((f.name, arity (family_type f)) ∷ [])) n f f.constructors k.0 k.1);
+      constructors =
+          bare_constructors _ f.parameters f.sort f.constructors k.0 c.0 c.1
+          (constructors_have (env ++ ((f.name, arity (family_type f)) ∷ [])) n f f.constructors k.0 k.1);
     })))

@@ -1,5 +1,6 @@
 -- The types that a family declares, and its rule of computation, where its telescope and its constructors' types hold no variable.
-use Rattle.std.proofs.Common.{◌≡◌, ◌≤◌, ◌+◌, ℕ, zero, suc, refl, sym, ◌∙◌, ap, arith, Bool, true, false, ◌||◌, if◌then◌else◌, List, [], ◌∷◌, ◌++◌, map, length, reverse, drop, Option, Some, None}
+use Rattle.std.proofs.Common.{◌≡◌, ◌≤◌, ◌+◌, ℕ, zero, suc, refl, sym, ◌∙◌, ap, arith, Bool, true, false, ◌||◌, if◌then◌else◌, List, [], ◌∷◌, ◌++◌, map, length}
+use Rattle.std.proofs.Common.{reverse, drop, Option, Some, None}
 use Rattle.std.proofs.Common.{subst as along}
 use Rattle.std.proofs.lemmas.List.{append_assoc, append-nil}
 use Rattle.std.specs.Prelude.{slice_get, zip}
@@ -11,13 +12,15 @@ use Rattle.lq_trees.specs.Change.{lift, fill, put}
 use Rattle.lq_trees.specs.Fresh.{is_listed}
 use Rattle.lq_trees.specs.Rules.{Arguments}
 use Rattle.lq_calculus.specs.Contraction.{spine, apply}
-use Rattle.lq_calculus.specs.Declarations.{Family, product, products, variables, own_of, own, instance_of, family_type, constructor_type, premise_end, premise, premises, predicate_type, conclusion, elim_type, arguments_of, count_down, rule_arguments, constructor_kind}
+use Rattle.lq_calculus.specs.Declarations.{Family, product, products, variables, own_of, own, instance_of, family_type, constructor_type, premise_end, premise}
+use Rattle.lq_calculus.specs.Declarations.{premises, predicate_type, conclusion, elim_type, arguments_of, count_down, rule_arguments, constructor_kind}
 use Rattle.lq_solving.specs.Stores.{names_in}
 use Rattle.lq_solving.specs.Claims.{IsPlain, ArePlain}
 use Rattle.lq_solving.proofs.Moving.{AllHave}
 use Rattle.lq_solving.proofs.Motions.{all_drop}
 use Rattle.lq_solving.proofs.InstanceLaws.{same_flip, is_same, length_map}
-use Rattle.lq_elab.proofs.PlainTerms.{IsBare, bare_plain, bare_more, bare_names, bare_lift, bare_lift_all, bare_close, have_reverse, bare_fill, bare_fill_all, bare_put, bare_apply, bare_spine}
+use Rattle.lq_elab.proofs.PlainTerms.{IsBare, bare_plain, bare_more, bare_names, bare_lift, bare_lift_all, bare_close, have_reverse, bare_fill, bare_fill_all}
+use Rattle.lq_elab.proofs.PlainTerms.{bare_put, bare_apply, bare_spine}
 
 -- names of one list that stand in another
 abbrev pub AreListed : List Name → List Name → Type 0
@@ -28,7 +31,8 @@ unfolding is_listed
 listed_left [] h x e = absurd (grind arith)
 listed_left (k ∷ g) h x e = at (same_name k.name x) e (λ f. listed_left g h x f)
   where
-    at : (o : Bool) → (o || is_listed (names_in g) x) ≡ true → (is_listed (names_in g) x ≡ true → is_listed (names_in (g ++ h)) x ≡ true) → (o || is_listed (names_in (g ++ h)) x) ≡ true
+    at : (o : Bool) → (o || is_listed (names_in g) x) ≡ true → (is_listed (names_in g) x ≡ true → is_listed (names_in (g ++ h)) x ≡ true) →
+        (o || is_listed (names_in (g ++ h)) x) ≡ true
     at true f ih = refl
     at false f ih = ih f
 
@@ -42,7 +46,8 @@ listed_right (k ∷ g) h x e = at (same_name k.name x) (listed_right g h x e)
     at false f = f
 
 -- a name of a longer context that is not the last one
-pub listed_before : (g : Context) (h : Hypothesis) (x : Name) → is_listed (names_in (g ++ h ∷ [])) x ≡ true → same_name x h.name ≡ false → is_listed (names_in g) x ≡ true
+pub listed_before : (g : Context) (h : Hypothesis) (x : Name) → is_listed (names_in (g ++ h ∷ [])) x ≡ true → same_name x h.name ≡ false →
+    is_listed (names_in g) x ≡ true
 unfolding is_listed
 listed_before [] h x e f = absurd (other (same_name h.name x) (same_flip h.name x ∙ f) e)
   where
@@ -51,7 +56,8 @@ listed_before [] h x e f = absurd (other (same_name h.name x) (same_flip h.name 
     other false p q = grind (arith, q)
 listed_before (k ∷ g) h x e f = at (same_name k.name x) e (λ p. listed_before g h x p f)
   where
-    at : (b : Bool) → (b || is_listed (names_in (g ++ h ∷ [])) x) ≡ true → (is_listed (names_in (g ++ h ∷ [])) x ≡ true → is_listed (names_in g) x ≡ true) → (b || is_listed (names_in g) x) ≡ true
+    at : (b : Bool) → (b || is_listed (names_in (g ++ h ∷ [])) x) ≡ true → (is_listed (names_in (g ++ h ∷ [])) x ≡ true → is_listed (names_in g) x ≡ true) →
+        (b || is_listed (names_in g) x) ≡ true
     at true p ih = refl
     at false p ih = ih p
 
@@ -80,7 +86,8 @@ bare_products g (h ∷ hs) n t b k = (
 pub bare_variables : (xs : List Name) (n : ℕ) (g : Context) → AreListed (names_in g) xs → AllHave (IsBare xs n) (variables g)
 unfolding variables is_listed
 bare_variables xs n [] f = tt
-bare_variables xs n (h ∷ g) f = (f h.name (ap (λ o. o || is_listed (names_in g) h.name) (is_same h.name)), bare_variables xs n g (λ x e. f x (at (same_name h.name x) x e)))
+bare_variables xs n (h ∷ g) f =
+    (f h.name (ap (λ o. o || is_listed (names_in g) h.name) (is_same h.name)), bare_variables xs n g (λ x e. f x (at (same_name h.name x) x e)))
   where
     at : (o : Bool) (x : Name) → is_listed (names_in g) x ≡ true → (o || is_listed (names_in g) x) ≡ true
     at true x e = refl
@@ -113,7 +120,8 @@ bare_own xs n f t ts g e =
     (all_drop (IsBare xs n) (length f.parameters) (spine t []).1 (bare_spine xs n t [] g tt))
 
 -- the family at indices
-pub bare_instance : (xs : List Name) (n : ℕ) (f : Family) (ts : List Tree) → AreListed (names_in f.parameters) xs → AllHave (IsBare xs n) ts → IsBare xs n (instance_of f ts)
+pub bare_instance : (xs : List Name) (n : ℕ) (f : Family) (ts : List Tree) → AreListed (names_in f.parameters) xs → AllHave (IsBare xs n) ts →
+    IsBare xs n (instance_of f ts)
 unfolding instance_of
 bare_instance xs n f ts l h = bare_apply xs n _ ts (bare_apply xs n (Ind f.name) (variables f.parameters) tt (bare_variables xs n f.parameters l)) h
 
@@ -124,17 +132,21 @@ module _ (f : Family) (k : ℕ) (xs : List Name) (listed : AreListed (names_in f
   AreSeen n m q seen = IsBare xs n q × AllHave (IsBare xs n) seen × (m ≡ length seen) × (m ≤ n)
 
   seen_one : (n m : ℕ) (q : Tree) (seen : List Tree) → AreSeen n m q seen → AreSeen (n + 1) (m + 1) (lift 1 0 q) (Rel 0 ∷ map (lift 1 0) seen)
-  seen_one n m q seen s = (bare_lift xs n 1 q s.0, (omega arith, bare_lift_all xs n 1 seen s.1), omega (arith, s.2, length_map (lift 1 0) seen), omega (arith, s.3))
+  seen_one n m q seen s =
+      (bare_lift xs n 1 q s.0, (omega arith, bare_lift_all xs n 1 seen s.1), omega (arith, s.2, length_map (lift 1 0) seen), omega (arith, s.3))
 
   seen_two : (n m : ℕ) (q : Tree) (seen : List Tree) → AreSeen n m q seen → AreSeen (n + 2) (m + 1) (lift 2 0 q) (Rel 1 ∷ map (lift 2 0) seen)
-  seen_two n m q seen s = (bare_lift xs n 2 q s.0, (omega arith, bare_lift_all xs n 2 seen s.1), omega (arith, s.2, length_map (lift 2 0) seen), omega (arith, s.3))
+  seen_two n m q seen s =
+      (bare_lift xs n 2 q s.0, (omega arith, bare_lift_all xs n 2 seen s.1), omega (arith, s.2, length_map (lift 2 0) seen), omega (arith, s.3))
 
-  filled_target : (n m : ℕ) (q : Tree) (seen : List Tree) → AreSeen n m q seen → (ts : List Tree) → AllHave (IsBare xs m) ts → AllHave (IsBare xs (n + 1)) (map (λ t. lift 1 0 (fill seen 0 t)) ts)
+  filled_target : (n m : ℕ) (q : Tree) (seen : List Tree) → AreSeen n m q seen → (ts : List Tree) → AllHave (IsBare xs m) ts →
+      AllHave (IsBare xs (n + 1)) (map (λ t. lift 1 0 (fill seen 0 t)) ts)
   filled_target n m q seen s [] g = tt
   filled_target n m q seen s (t ∷ ts) g = (bare_lift xs n 1 (fill seen 0 t) (bare_fill xs n m seen s.2 s.1 t g.0), filled_target n m q seen s ts g.1)
 
   premise_goes : (n m : ℕ) (q : Tree) (seen : List Tree) → AreSeen n m q seen → (x : Name) (A B : Tree) → IsBare xs m A →
-      IsBare xs (n + 1) (premise f k (lift 1 0 q) (Rel 0 ∷ map (lift 1 0) seen) B) → IsBare xs (n + 2) (premise f k (lift 2 0 q) (Rel 1 ∷ map (lift 2 0) seen) B) →
+      IsBare xs (n + 1) (premise f k (lift 1 0 q) (Rel 0 ∷ map (lift 1 0) seen) B) →
+      IsBare xs (n + 2) (premise f k (lift 2 0 q) (Rel 1 ∷ map (lift 2 0) seen) B) →
       (o : Option (List Tree)) → own f A ≡ o →
       IsBare xs n (elim o [
         | None ↦ Prod x (fill seen 0 A) (premise f k (lift 1 0 q) (Rel 0 ∷ map (lift 1 0) seen) B)
@@ -158,7 +170,8 @@ module _ (f : Family) (k : ℕ) (xs : List Name) (listed : AreListed (names_in f
   premise_ends n m q seen s t g None e = bare_more xs m n s.3 t g
   premise_ends n m q seen s t g (Some ts) e = (
     bare_apply xs n q _ s.0 (bare_fill_all xs n m seen s.2 s.1 ts (bare_own xs m f t ts g e)),
-    bare_apply xs n _ (reverse seen) (bare_apply xs n (Ctor f.name k) (variables f.parameters) tt (bare_variables xs n f.parameters listed)) (have_reverse (IsBare xs n) seen s.1),
+    bare_apply xs n _ (reverse seen) (bare_apply xs n (Ctor f.name k) (variables f.parameters) tt (bare_variables xs n f.parameters listed))
+        (have_reverse (IsBare xs n) seen s.1),
   )
 
   pub bare_premise : (n m : ℕ) (q : Tree) (seen : List Tree) → AreSeen n m q seen → (t : Tree) → IsBare xs m t → IsBare xs n (premise f k q seen t)
@@ -179,6 +192,7 @@ module _ (f : Family) (k : ℕ) (xs : List Name) (listed : AreListed (names_in f
   bare_premise n m q seen s (Elim c u) g = premise_ends n m q seen s (Elim c u) g (own f (Elim c u)) refl
   bare_premise n m q seen s (Evar j ts) g = premise_ends n m q seen s (Evar j ts) g (own f (Evar j ts)) refl
 
+-- constructors whose types hold no variable, and hypotheses of these names alone
 abbrev pub AreConstructors : List Name → List (Name × Tree) → Type 0
 AreConstructors xs [] = Unit {0}
 AreConstructors xs (c ∷ cs) = IsBare xs 0 c.1 × AreConstructors xs cs
@@ -189,7 +203,8 @@ constructor_at xs (d ∷ cs) g zero c e = along (λ z. IsBare xs 0 z.1) (ap (λ 
 constructor_at xs (d ∷ cs) g (suc k) c e = constructor_at xs cs g.1 k c e
 
 -- the premises, in front of what stands below them all
-pub bare_premises : (f : Family) (xs : List Name) → AreListed (names_in f.parameters) xs → (n m : ℕ) (k : ℕ) (q : Tree) (cs : List (Name × Tree)) (end : Tree) → m ≡ n + length cs →
+pub bare_premises : (f : Family) (xs : List Name) → AreListed (names_in f.parameters) xs → (n m : ℕ) (k : ℕ) (q : Tree) (cs : List (Name × Tree)) (end : Tree) →
+    m ≡ n + length cs →
     IsBare xs n q → AreConstructors xs cs → IsBare xs m end → IsBare xs n (premises f k q cs end)
 unfolding premises
 bare_premises f xs l n m k q [] end e g h i = along (λ z. IsBare xs z end) (omega arith) i
@@ -225,7 +240,8 @@ module _ (f : Family) (b : IsBareFamily f) where
   unfolding constructor_kind constructor_type
   plain_constructor k A e = at (slice_get f.constructors k) refl e
     where
-      at : (o : Option (Name × Tree)) → slice_get f.constructors k ≡ o → elim o [ None ↦ None | Some c ↦ Some (products f.parameters c.1) ] ≡ Some A → IsPlain 0 A
+      at : (o : Option (Name × Tree)) → slice_get f.constructors k ≡ o → elim o [ None ↦ None | Some c ↦ Some (products f.parameters c.1) ] ≡ Some A →
+          IsPlain 0 A
       at None p q = absurd (grind arith)
       at (Some c) p q =
           along (IsPlain 0) (ap (λ o. elim o [ Some z ↦ z | None ↦ A ]) q)
@@ -239,8 +255,14 @@ module _ (f : Family) (b : IsBareFamily f) where
   unfolding conclusion
   bare_conclusion n q g =
       bare_products f.parameters f.indices n _
-      b.indices
-      (family_at n, (bare_apply inner (n + 1) (lift 1 0 q) (variables f.indices) (bare_names outer inner (listed_left f.parameters f.indices) (n + 1) (lift 1 0 q) (bare_lift outer n 1 q g)) (indices_in (n + 1)), omega arith))
+      b.indices (
+        family_at n,
+        (
+          bare_apply inner (n + 1) (lift 1 0 q) (variables f.indices)
+              (bare_names outer inner (listed_left f.parameters f.indices) (n + 1) (lift 1 0 q) (bare_lift outer n 1 q g)) (indices_in (n + 1)),
+          omega arith,
+        ),
+      )
 
   pub plain_elim_type : (s : Universe) → IsPlain 0 (elim_type f s)
   unfolding elim_type
@@ -248,7 +270,8 @@ module _ (f : Family) (b : IsBareFamily f) where
       bare_plain 0 _
       (bare_products [] f.parameters 0 _ b.parameters (
         bare_predicate s,
-        bare_premises f outer (λ x e. e) 1 (1 + length f.constructors) 0 (Rel 0) f.constructors (conclusion f (Rel (length f.constructors))) refl (omega arith) b.constructors
+        bare_premises f outer (λ x e. e) 1 (1 + length f.constructors) 0 (Rel 0) f.constructors (conclusion f (Rel (length f.constructors)))
+            refl (omega arith) b.constructors
             (bare_conclusion (1 + length f.constructors) (Rel (length f.constructors)) (omega arith)),
       ))
 
@@ -277,7 +300,8 @@ found_bare m (y ∷ ys) (u ∷ us) l g x e = at (same_name x y) (ap (λ o. o || 
     at false f ih = ih f
 
 -- the arguments of a constructor, with bound variables for the parameters
-module _ (f : Family) (xs : List Name) (m : ℕ) (qs : List (Name × Tree)) (found : (x : Name) → is_listed xs x ≡ true → (v : Tree) × (value_of qs x ≡ Some v) × IsBare [] m v) where
+module _ (f : Family) (xs : List Name) (m : ℕ) (qs : List (Name × Tree))
+    (found : (x : Name) → is_listed xs x ≡ true → (v : Tree) × (value_of qs x ≡ Some v) × IsBare [] m v) where
   targets_plain : (d : ℕ) (ts : List Tree) → AllHave (IsBare xs d) ts → AllByRecursion (IsPlain (m + d)) (map (put qs d) ts)
   targets_plain d [] g = tt
   targets_plain d (t ∷ ts) g = (bare_plain (m + d) (put qs d t) (bare_put xs m qs found d t g.0), targets_plain d ts g.1)
@@ -290,7 +314,9 @@ module _ (f : Family) (xs : List Name) (m : ℕ) (qs : List (Name × Tree)) (fou
   pub plain_arguments : (d : ℕ) (t : Tree) → IsBare xs d t → ArePlain (m + d) (arguments_of f qs d t)
   unfolding arguments_of
   plain_arguments d (Prod x A B) g =
-      argument_plain d A B g.0 (along (λ z. ArePlain z (arguments_of f qs (suc d) B)) (omega arith) (plain_arguments (suc d) B (along (λ z. IsBare xs z B) (omega arith) g.1))) (own f A) refl
+      argument_plain d A B g.0
+      (along (λ z. ArePlain z (arguments_of f qs (suc d) B)) (omega arith) (plain_arguments (suc d) B (along (λ z. IsBare xs z B) (omega arith) g.1)))
+      (own f A) refl
   plain_arguments d (Rel i) g = tt
   plain_arguments d (Var x) g = tt
   plain_arguments d (Sort s) g = tt

@@ -1,14 +1,13 @@
 -- What has a type holds no variable, and no bound variable is loose in it.
-use Rattle.std.proofs.Common.{◌≡◌, ◌≤◌, ◌+◌, ◌-◌, ◌==◌, ℕ, suc, refl, sym, ap, arith, eqb, Bool, true, false, if◌then◌else◌, List, [], length, inl, inr}
-use Rattle.std.proofs.Common.{subst as along}
-use Rattle.std.specs.Prelude.{nat_lt}
-use Rattle.lq_trees.specs.Tree.{Name, Tree, Trees, Context}
+use Rattle.std.proofs.Common.{◌≤◌, ◌+◌, ℕ, suc, arith, []}
+use Rattle.lq_trees.specs.Tree.{Name, Tree, Context}
 use Rattle.lq_trees.specs.Tree.Tree.{Rel, Var, Sort, Prod, Lam, Let, App, Const, Ind, Ctor, Elim, Evar}
 use Rattle.lq_trees.specs.Change.{Leaves, replace, substituting}
 use Rattle.lq_trees.specs.Fresh.{opened}
 use Rattle.lq_trees.specs.Index.{Within}
 use Rattle.lq_calculus.specs.Declarations.{Env}
-use Rattle.lq_calculus.specs.Typing.{Derives, prop_has, type_has, hypothesis_has, constant_has, family_has, arity_has, constructor_has, eliminator_has, product_has, function_has, let_has, application_has, equal_has}
+use Rattle.lq_calculus.specs.Typing.{Derives, prop_has, type_has, hypothesis_has, constant_has, family_has, arity_has, constructor_has, eliminator_has}
+use Rattle.lq_calculus.specs.Typing.{product_has, function_has, let_has, application_has, equal_has}
 use Rattle.lq_solving.specs.Kept.{IsOver}
 
 -- replacing leaves takes no variable away
@@ -44,13 +43,16 @@ within_before y d (Ctor c k) o h = tt
 within_before y d (Elim c s) o h = tt
 within_before y d (Evar n ts) o h = absurd (omega (arith, o.0))
 
+-- no variable, and no bound variable loose
 abbrev pub IsWhole : Tree → Type 0
 IsWhole t = IsOver [] t × Within 0 t
 
+-- what is under a binder, by its opened form
 rest_whole : (y : Name) (t : Tree) → IsWhole (opened y t) → IsOver [] t × Within 1 t
 unfolding opened
 rest_whole y t h = let o = over_before (substituting (Var y)) 0 t h.0 in (o, within_before y 0 t o h.1)
 
+-- by each typing rule
 pub derived_whole : {env : Env} {g : Context} {t A : Tree} → Derives env g t A → IsWhole t
 derived_whole prop_has = (tt, tt)
 derived_whole (type_has l) = (tt, tt)

@@ -1,5 +1,6 @@
 -- Terms without variables, which hold hypotheses of some names alone: what is made of them is such a term.
-use Rattle.std.proofs.Common.{◌≡◌, ◌≤◌, ◌+◌, ◌-◌, ℕ, suc, refl, sym, ap, arith, Bool, true, false, if◌then◌else◌, List, [], ◌∷◌, ◌++◌, map, length, reverse, Option, Some, None, inl, inr, add-zero}
+use Rattle.std.proofs.Common.{◌≡◌, ◌≤◌, ◌+◌, ◌-◌, ℕ, suc, refl, sym, ap, arith, Bool, true, false, if◌then◌else◌, List, [], ◌∷◌, ◌++◌, map, length, reverse}
+use Rattle.std.proofs.Common.{Option, Some, None, inl, inr, add-zero}
 use Rattle.std.proofs.Common.{subst as along}
 use Rattle.std.proofs.lemmas.Bool.{cases_lt}
 use Rattle.std.proofs.lemmas.List.{reverse-append}
@@ -79,7 +80,8 @@ pub bare_close : (xs ys : List Name) (y : Name) → ((x : Name) → is_listed ys
     IsBare ys n t → IsBare xs (n + 1) (close y t)
 bare_close xs ys y f n t g =
     along (λ z. IsBare xs z (close y t)) (add-zero (n + 1))
-    (bare_replace (closing y) ys xs n (n + 1) (λ d i l. bare_lifted xs n 1 d i l) (λ d x l. at d x l (same_name x y) refl) 0 t (along (λ z. IsBare ys z t) (sym (add-zero n)) g))
+    (bare_replace (closing y) ys xs n (n + 1) (λ d i l. bare_lifted xs n 1 d i l) (λ d x l. at d x l (same_name x y) refl) 0 t
+    (along (λ z. IsBare ys z t) (sym (add-zero n)) g))
   where
     at : (d : ℕ) (x : Name) → is_listed ys x ≡ true → (b : Bool) → same_name x y ≡ b → IsBare xs (n + 1 + d) (if b then Rel d else Var x)
     at d x l true e = omega arith
@@ -115,12 +117,14 @@ bare_fill xs n m ws e h t g =
       | inr k ↦ got d i l k (slice_get ws (i - d)) refl
     ]
 
-pub bare_fill_all : (xs : List Name) (n m : ℕ) (ws : List Tree) → m ≡ length ws → AllHave (IsBare xs n) ws → (ts : List Tree) → AllHave (IsBare xs m) ts → AllHave (IsBare xs n) (map (fill ws 0) ts)
+pub bare_fill_all : (xs : List Name) (n m : ℕ) (ws : List Tree) → m ≡ length ws → AllHave (IsBare xs n) ws → (ts : List Tree) → AllHave (IsBare xs m) ts →
+    AllHave (IsBare xs n) (map (fill ws 0) ts)
 bare_fill_all xs n m ws e h [] g = tt
 bare_fill_all xs n m ws e h (t ∷ ts) g = (bare_fill xs n m ws e h t g.0, bare_fill_all xs n m ws e h ts g.1)
 
 -- closed terms for all names
-pub bare_put : (xs : List Name) (n : ℕ) (ps : List (Name × Tree)) → ((x : Name) → is_listed xs x ≡ true → (v : Tree) × (value_of ps x ≡ Some v) × IsBare [] n v) →
+pub bare_put : (xs : List Name) (n : ℕ) (ps : List (Name × Tree)) →
+    ((x : Name) → is_listed xs x ≡ true → (v : Tree) × (value_of ps x ≡ Some v) × IsBare [] n v) →
     (d : ℕ) (t : Tree) → IsBare xs d t → IsBare [] (n + d) (put ps d t)
 bare_put xs n ps f d t g =
     bare_replace (instantiating ps) xs [] 0 n (λ e i l. omega (arith, l)) (λ e x l. at e x (f x l)) d t (along (λ z. IsBare xs z t) (omega arith) g)
