@@ -98,7 +98,7 @@ within_more z ys xs f y e = at (same_name z y) e
     at true p = refl
     at false p = f y p
 
-tail_listed : (z : Name) (xs : List Name) (y : Name) → is_listed xs y ≡ true → is_listed (z ∷ xs) y ≡ true
+pub tail_listed : (z : Name) (xs : List Name) (y : Name) → is_listed xs y ≡ true → is_listed (z ∷ xs) y ≡ true
 unfolding is_listed
 tail_listed z xs y e = at (same_name z y)
   where
@@ -193,7 +193,7 @@ own_parts s x xs ys (k ∷ g) h b f w e = at (same_name k.name x) e w (λ v q. o
 
 -- ---- the rows
 
-named_is : (c : Scene) (x : Name) (h : Hypothesis) → Gives (hypothesis_named c x) h → hypothesis c.context x ≡ Some h
+pub named_is : (c : Scene) (x : Name) (h : Hypothesis) → Gives (hypothesis_named c x) h → hypothesis c.context x ≡ Some h
 unfolding hypothesis_named
 named_is c x h y = at (hypothesis c.context x) y
   where
@@ -201,7 +201,7 @@ named_is c x h y = at (hypothesis c.context x) y
     at (Some i) z = ap Some z
     at None z = absurd z
 
-found_name : (g : Context) (x : Name) (h : Hypothesis) → hypothesis g x ≡ Some h → h.name ≡ x
+pub found_name : (g : Context) (x : Name) (h : Hypothesis) → hypothesis g x ≡ Some h → h.name ≡ x
 unfolding hypothesis
 found_name [] x h e = absurd (grind (arith, e))
 found_name (k ∷ g) x h e = at (same_name k.name x) refl e (λ q. found_name g x h q)
@@ -281,7 +281,7 @@ module _ (c : Scene) (s : IsScene c) where
           less_reached x (reverted_type h h.body c.kind) (λ k. reverted_body h h.body (goal_term k (without_name x c.context))) d e (kind_is h h.body name p.0 p.1)
           (body_is h h.body (kinds_stand c.store c.context s.context x h q).0) z
 
-revert_each_kept : (xs : List Name) (c : Scene) (st : Step) → IsScene c → has_value c.store c.goal ≡ false → Gives (revert_each xs c) st → IsStep c st
+pub revert_each_kept : (xs : List Name) (c : Scene) (st : Step) → IsScene c → has_value c.store c.goal ≡ false → Gives (revert_each xs c) st → IsStep c st
 unfolding revert_each
 revert_each_kept [] c st s e y = along (IsStep c) y (stays_kept c s e)
 revert_each_kept (x ∷ xs) c st s e y =

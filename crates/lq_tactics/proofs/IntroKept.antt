@@ -195,7 +195,7 @@ given_near m k d st h y = let a = gives_bind (needed (read d.store d.body)) _ st
     at b true z = absurd z
     at b false z = along (λ w. AreNear m w.store w.goals) z h
 
-intro_near : (c : Scene) (w : Option Name) (st : Step) → IsScene c → (w ≡ None → suc (length c.context) < 10 ^ 64) → Gives (ended c (do_intro c w)) st → AreNear (suc (length c.context)) st.store st.goals
+pub intro_near : (c : Scene) (w : Option Name) (st : Step) → IsScene c → (w ≡ None → suc (length c.context) < 10 ^ 64) → Gives (ended c (do_intro c w)) st → AreNear (suc (length c.context)) st.store st.goals
 unfolding ended
 intro_near c w st s few y =
     let d = gives_bind (do_intro c w) (given_to c.goal) st y in given_near (suc (length c.context)) c.goal d.0 st (intro_reached c s w d.0 few d.1).1 d.2

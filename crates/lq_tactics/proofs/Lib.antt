@@ -13,6 +13,7 @@ pub mod PrimsKept
 pub mod HypothesesKept
 pub mod RetypingKept
 pub mod TelescopesKept
+pub mod QuietKept
 pub mod ElimKept
 pub mod ComputeKept
 pub mod RewriteKept
