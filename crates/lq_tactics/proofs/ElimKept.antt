@@ -8,12 +8,13 @@ use Rattle.lq_trees.specs.Tree.{Name, Tree, Context, same_name, value_of}
 use Rattle.lq_trees.specs.Tree.Tree.{Rel, Var, Sort, Ind, Elim}
 use Rattle.lq_trees.specs.Change.{instance}
 use Rattle.lq_trees.specs.Fresh.{is_listed, fresh_of}
+use Rattle.lq_trees.specs.Reading.{entries}
 use Rattle.lq_trees.specs.Ticks.{◌>>=◌}
 use Rattle.lq_calculus.specs.Contraction.{spine, apply}
-use Rattle.lq_calculus.specs.Declarations.{lookup, products, family_type, constructor_type, constructor_kind, premise}
+use Rattle.lq_calculus.specs.Declarations.{lookup, variables, products, family_type, constructor_type, constructor_kind, premise}
 use Rattle.lq_calculus.proofs.ConvSound.{Gives, gives_bind, same_name_is}
 use Rattle.lq_ast.specs.Syntax.{Surface}
-use Rattle.lq_solving.specs.Stores.{Store, Variable, Assigned, names_in, count, has_value, read}
+use Rattle.lq_solving.specs.Stores.{Store, Variable, Assigned, names_in, names_at, count, has_value, read, instance_list, own_instance}
 use Rattle.lq_solving.specs.Kept.{Stands, StandsIn, IsStore}
 use Rattle.lq_solving.specs.Elaboration.{Found}
 use Rattle.lq_solving.proofs.StoreLaws.{context_keeps}
@@ -150,6 +151,15 @@ all_from_get : {A : Type 0} (P : A → Type 0) (xs : List A) → ((k : ℕ) (x :
 all_from_get P [] f = tt
 all_from_get P (x ∷ xs) f = (f 0 x refl, all_from_get P xs (λ k y e. f (suc k) y e))
 
+-- goals whose contexts have at most so many names
+abbrev pub AreShort : ℕ → Store → List ℕ → Type 0
+AreShort m s ks = (k : ℕ) → 1 ≤ times ks k → length (names_at s.variables k) ≤ m
+
+own_many : (g : Context) → length (entries (own_instance g)) ≡ length g
+unfolding own_instance instance_list variables entries
+own_many [] = refl
+own_many (h ∷ g) = ap suc (own_many g)
+
 -- ---- what a family says
 
 module _ (c : Scene) (s : IsScene c) (i : Inductive) (h : IsInductive c i) where
@@ -274,7 +284,11 @@ module _ (c : Scene) (s : IsScene c) (i : Inductive) (h : IsInductive c i) where
   both_stand s1 [] us h k = k
   both_stand s1 (t ∷ ts) us h k = (h.0, both_stand s1 ts us h.1 k)
 
-  pub eliminated_reached : (f : Found) (e : Eliminated) → StandsIn c.store c.context f.term → Gives (eliminate_at c f i) e → IsReached c e.did × (e.type ≡ i)
+  -- the new goals have contexts with as many names
+  premises_short : (s1 : Store) (ks : List ℕ) → ((k : ℕ) → 1 ≤ times ks k → StandsIn s1 c.context (goal_term k c.context)) → AreShort (length c.context) s1 ks
+  premises_short s1 ks f k l = let h = (f k l).over in omega (arith, h.1, own_many c.context)
+
+  pub eliminated_reached : (f : Found) (e : Eliminated) → StandsIn c.store c.context f.term → Gives (eliminate_at c f i) e → IsReached c e.did × (e.type ≡ i) × AreShort (length c.context) e.did.store e.did.goals
   unfolding eliminate_at
   eliminated_reached f e t y =
       let u = gives_bind (goal_sort c) _ e y in
@@ -293,13 +307,14 @@ module _ (c : Scene) (s : IsScene c) (i : Inductive) (h : IsInductive c i) where
       (both_stand r.0.0 (parameters_of i) (P ∷ premise_terms c r.0.1) (all_stand r.0.0 g (parameters_of i) parameters_good) (predicate_stands, premise_terms_stand r.0.0 r.0.1 m.terms))
       (all_stand r.0.0 g (indices_of i) (all_drop (IsGood c.store.variables c.store.values (names_in c.context) 0) (length i.family.parameters) i.args h.args)))
       (g.keeps (names_in c.context) f.term t, tt) in
-      along (λ z. IsReached c z.did × (z.type ≡ i)) r.2 (
+      along (λ z. IsReached c z.did × (z.type ≡ i) × AreShort (length c.context) z.did.store z.did.goals) r.2 (
         record {
           grown = g;
           body = apply_stands r.0.0 g.store (names_in c.context) (Elim i.name u.0) _ (good_stands r.0.0 g.store [] (names_in c.context) (Elim i.name u.0) tt) args;
           goals = m.goals;
         },
         refl,
+        premises_short r.0.0 r.0.1 m.terms,
       )
 
 -- what is reached from a later store of the scene
@@ -310,7 +325,7 @@ reached_earlier c d e g q r = record {
   goals = record { once = r.goals.once; inside = r.goals.inside; valueless = r.goals.valueless; new = λ k l. omega (arith, r.goals.new k l, g.more) };
 }
 
-pub eliminate_reached : (c : Scene) → IsScene c → (f : Found) (e : Eliminated) → Finds c.store c.context f → Gives (eliminate c f) e → IsReached c e.did
+pub eliminate_reached : (c : Scene) → IsScene c → (f : Found) (e : Eliminated) → Finds c.store c.context f → Gives (eliminate c f) e → IsReached c e.did × AreShort (length c.context) e.did.store e.did.goals
 unfolding eliminate inductive_or
 eliminate_reached c s f e k y =
     let d = gives_bind (renewed c f.store) _ e y in
@@ -324,8 +339,8 @@ eliminate_reached c s f e k y =
     let i = gives_bind (inductive_or t.0 (inductive_of d.0.env (spine t.0 []))) (eliminate_at d.0 f) e t.2 in
     let good = head_good d.0 sd.plain d.0.store sd.store sd.context f.kind t.0 kind t.1 in
     let args = (spine_good d.0.store.variables d.0.store.values (names_in d.0.context) t.0 [] good tt).1 in
-    reached_earlier c d.0 e.did (along (Grown c.store) (sym store) k.0) context
-    (eliminated_reached d.0 sd i.0 (at d.0 sd t.0 i.0 (inductive_of d.0.env (spine t.0 [])) refl args i.1) f e term i.2).0
+    let r = eliminated_reached d.0 sd i.0 (at d.0 sd t.0 i.0 (inductive_of d.0.env (spine t.0 [])) refl args i.1) f e term i.2 in
+    (reached_earlier c d.0 e.did (along (Grown c.store) (sym store) k.0) context r.0, along (λ g. AreShort (length g) e.did.store e.did.goals) context r.2)
   where
     at : (d : Scene) → IsScene d → (t : Tree) (i : Inductive) (o : Option Inductive) → inductive_of d.env (spine t []) ≡ o → AllHave (IsGood d.store.variables d.store.values (names_in d.context) 0) (spine t []).1 →
         Gives (inductive_or t o) i → IsInductive d i
@@ -337,4 +352,4 @@ unfolding do_elim
 elim_reached c s t d few y =
     let e = gives_bind (term_of c t None >>= eliminate c) _ d y in
     let f = gives_bind (term_of c t None) (eliminate c) e.0 e.1 in
-    along (IsReached c) e.2 (eliminate_reached c s f.0 e.0 (term_found c s t None f.0 tt few f.1) f.2)
+    along (IsReached c) e.2 (eliminate_reached c s f.0 e.0 (term_found c s t None f.0 tt few f.1) f.2).0

@@ -16,6 +16,7 @@ pub mod TelescopesKept
 pub mod QuietKept
 pub mod ElimKept
 pub mod ComputeKept
+pub mod BranchesKept
 pub mod RewriteKept
 pub mod RenameKept
 pub mod RulesKept
