@@ -11,3 +11,4 @@ pub mod PlainTerms
 pub mod PlainFamilies
 pub mod PlainSubjects
 pub mod PlainDeclarations
+pub mod DerivedNames

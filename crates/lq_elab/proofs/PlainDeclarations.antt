@@ -9,15 +9,15 @@ use Rattle.lq_trees.specs.Tree.Tree.{Rel, Var, Sort, Prod, Lam, Let, App, Const,
 use Rattle.lq_trees.specs.Fresh.{is_listed}
 use Rattle.lq_trees.specs.Hypotheses.{HoldsOnly, EachHoldsOnly}
 use Rattle.lq_trees.specs.Rules.{Counts, Arguments}
-use Rattle.lq_trees.specs.Ticks.{fails}
+use Rattle.lq_trees.specs.Ticks.{done, fails, under_budget}
 use Rattle.lq_calculus.specs.Declarations.{Env, Entry, Family, lookup, constant, family, arity, constructor, eliminator, eliminator_name, sorts, family_type}
 use Rattle.lq_calculus.specs.Declarations.{constructor_kind, permits, elim_type, rules_of, rule_arguments, counts_of, delta_in, family_in, constructor_entries}
 use Rattle.lq_calculus.specs.Declarations.{family_entries, permitted, first_taken, names_of, declared_names, constructors_fault, first_stored, stored_types}
 use Rattle.lq_calculus.specs.Declarations.{first_fault}
-use Rattle.lq_calculus.specs.Typing.{Derives, ContextHas, one_more, ConstructorsHave, one_constructor}
+use Rattle.lq_calculus.specs.Typing.{Derives, ContextHas, one_more, ConstructorsHave, one_constructor, DerivedEnv, no_entry, with_constant, with_family}
 use Rattle.lq_calculus.specs.Checking.{KernelFault, unbound, strange, strange_in, known, known_context, no_env_fault, sort_of, check, declare_constant}
 use Rattle.lq_calculus.specs.Checking.{sorts_of, check_constructors, declare_family}
-use Rattle.lq_calculus.proofs.ConvSound.{Gives, gives_bind}
+use Rattle.lq_calculus.proofs.ConvSound.{Gives, gives_bind, done_gives}
 use Rattle.lq_calculus.proofs.InferSound.{check_derives}
 use Rattle.lq_calculus.proofs.DeclareSound.{sort_of_derives, context_has, constructors_have}
 use Rattle.lq_solving.specs.Stores.{names_in}
@@ -204,26 +204,6 @@ declarations_joined env es p all = plain_declarations (env ++ es) (entries_joine
 pub nothing_plain : ArePlainDeclarations []
 nothing_plain = plain_declarations [] (λ x e h. absurd (grind arith))
 
--- a constant that is accepted
-pub constant_plain : (env : Env) (n : ℕ) (x : Name) (A t : Tree) (opaque : Bool) (new : Env) → ArePlainDeclarations env →
-    Gives (declare_constant env n x A t opaque) new → ArePlainDeclarations new
-unfolding declare_constant
-constant_plain env n x A t opaque new p h =
-    let a = gives_bind (no_env_fault (first_taken (names_of env) (x ∷ []))) _ new h in
-    let b = gives_bind (known [] (A ∷ t ∷ [])) _ new a.2 in
-    let s = gives_bind (sort_of env n [] A) _ new b.2 in
-    let c = gives_bind (check env n [] t A) _ new s.2 in
-    let k = known_holds [] A (t ∷ []) b.0 b.1 in
-    let l = known_holds [] t [] b.0 k.1 in
-    along ArePlainDeclarations c.2
-    (declarations_joined env ((x, constant A t opaque) ∷ []) p (
-      (
-        bare_plain 0 A (bare_derived (sort_of_derives env n [] A s.0 s.1) [] k.0),
-        λ o. bare_plain 0 t (bare_derived (check_derives env n [] t A c.0 c.1) [] l.0),
-      ),
-      tt,
-    ))
-
 -- the entries of a family
 pub bare_family : (f : Family) (ss : List Universe) → IsBareFamily f → IsPlainFamily f ss
 bare_family f ss b = record {
@@ -246,6 +226,42 @@ family_entries_plain f ss b = (bare_family f ss b, behind f.constructors 0)
     behind [] k = last sorts
     behind (c ∷ cs) k = (tt, behind cs (suc k))
 
+-- one constant more, whose type and body have types and hold no hypothesis
+pub constant_more : (env : Env) (x : Name) (A t : Tree) (opaque : Bool) (s : Universe) (ok : Unit {0}) → ArePlainDeclarations env →
+    Gives (known [] (A ∷ t ∷ [])) ok → Derives env [] A (Sort s) → Derives env [] t A → ArePlainDeclarations (env ++ (x, constant A t opaque) ∷ [])
+constant_more env x A t opaque s ok p h a b =
+    let k = known_holds [] A (t ∷ []) ok h in
+    let l = known_holds [] t [] ok k.1 in
+    declarations_joined env ((x, constant A t opaque) ∷ []) p
+    ((bare_plain 0 A (bare_derived a [] k.0), λ o. bare_plain 0 t (bare_derived b [] l.0)), tt)
+
+-- one family more, whose telescope and constructors have sorts and hold known names
+pub family_more : (env around : Env) (f : Family) (ss : List Universe) (found : List (List Universe)) (ok ok2 : Unit {0}) → ArePlainDeclarations env →
+    Gives (known_context [] (f.parameters ++ f.indices)) ok → Gives (known f.parameters (map (λ c. c.1) f.constructors)) ok2 →
+    ContextHas env [] (f.parameters ++ f.indices) → ConstructorsHave around f.parameters f.sort f.constructors found →
+    ArePlainDeclarations (env ++ family_entries f ss)
+family_more env around f ss found ok ok2 p h k c d =
+    let whole = bare_context env [] (f.parameters ++ f.indices) ok h c in
+    declarations_joined env (family_entries f ss) p
+    (family_entries_plain f ss
+    (record {
+      parameters = behind_left [] f.parameters f.indices whole;
+      indices = behind_right [] f.parameters f.indices whole;
+      constructors = bare_constructors around f.parameters f.sort f.constructors found ok2 k d;
+    }))
+
+-- a constant that is accepted
+pub constant_plain : (env : Env) (n : ℕ) (x : Name) (A t : Tree) (opaque : Bool) (new : Env) → ArePlainDeclarations env →
+    Gives (declare_constant env n x A t opaque) new → ArePlainDeclarations new
+unfolding declare_constant
+constant_plain env n x A t opaque new p h =
+    let a = gives_bind (no_env_fault (first_taken (names_of env) (x ∷ []))) _ new h in
+    let b = gives_bind (known [] (A ∷ t ∷ [])) _ new a.2 in
+    let s = gives_bind (sort_of env n [] A) _ new b.2 in
+    let c = gives_bind (check env n [] t A) _ new s.2 in
+    along ArePlainDeclarations c.2
+    (constant_more env x A t opaque s.0 b.0 p b.1 (sort_of_derives env n [] A s.0 s.1) (check_derives env n [] t A c.0 c.1))
+
 -- a family that is accepted
 pub family_plain : (env : Env) (n : ℕ) (f : Family) (new : Env) → ArePlainDeclarations env → Gives (declare_family env n f) new → ArePlainDeclarations new
 unfolding declare_family
@@ -254,16 +270,33 @@ family_plain env n f new p h =
     let b = gives_bind (known_context [] (f.parameters ++ f.indices)) _ new a.2 in
     let c = gives_bind (known f.parameters (map (λ c. c.1) f.constructors)) _ new b.2 in
     let s = gives_bind (sorts_of env n [] (f.parameters ++ f.indices)) _ new c.2 in
-    let k = gives_bind (check_constructors (env ++ ((f.name, arity (family_type f)) ∷ [])) n f f.constructors) _ new s.2 in
+    let around = env ++ ((f.name, arity (family_type f)) ∷ []) in
+    let k = gives_bind (check_constructors around n f f.constructors) _ new s.2 in
     let l = gives_bind (no_env_fault (first_fault (constructors_fault f f.constructors) (first_stored (stored_types f (permitted f.sort k.0))))) _ new k.2 in
-    let whole = bare_context env [] (f.parameters ++ f.indices) b.0 b.1 (context_has env n [] (f.parameters ++ f.indices) s.0 s.1) in
     along ArePlainDeclarations l.2
-    (declarations_joined env (family_entries f (permitted f.sort k.0)) p
-    (family_entries_plain f (permitted f.sort k.0)
-    (record {
-      parameters = behind_left [] f.parameters f.indices whole;
-      indices = behind_right [] f.parameters f.indices whole;
-      constructors =
-          bare_constructors _ f.parameters f.sort f.constructors k.0 c.0 c.1
-          (constructors_have (env ++ ((f.name, arity (family_type f)) ∷ [])) n f f.constructors k.0 k.1);
-    })))
+    (family_more env around f (permitted f.sort k.0) k.0 b.0 c.0 p b.1 c.1
+    (context_has env n [] (f.parameters ++ f.indices) s.0 s.1) (constructors_have around n f f.constructors k.0 k.1))
+
+-- the same within a budget
+pub constant_kept : (env new : Env) (x : Name) (A t : Tree) (opaque : Bool) (b left : ℕ) → ArePlainDeclarations env →
+    under_budget (λ n. declare_constant env n x A t opaque) b ≡ done new left → ArePlainDeclarations new
+unfolding under_budget
+constant_kept env new x A t opaque b left p e =
+    constant_plain env (suc b) x A t opaque new p (done_gives b (declare_constant env (suc b) x A t opaque) new left e)
+
+pub family_kept : (env new : Env) (f : Family) (b left : ℕ) → ArePlainDeclarations env →
+    under_budget (λ n. declare_family env n f) b ≡ done new left → ArePlainDeclarations new
+unfolding under_budget
+family_kept env new f b left p e = family_plain env (suc b) f new p (done_gives b (declare_family env (suc b) f) new left e)
+
+-- each declaration of a derived environment went through the look for strange names
+abbrev pub AreLookedThrough : {env : Env} → DerivedEnv env → Type 0
+AreLookedThrough no_entry = Unit {0}
+AreLookedThrough (with_constant env x A t opaque d new a b) = AreLookedThrough d × Gives (known [] (A ∷ t ∷ [])) tt
+AreLookedThrough (with_family env f found d e c k) =
+    AreLookedThrough d × Gives (known_context [] (f.parameters ++ f.indices)) tt × Gives (known f.parameters (map (λ c. c.1) f.constructors)) tt
+
+pub derived_plain : {env : Env} (d : DerivedEnv env) → AreLookedThrough d → ArePlainDeclarations env
+derived_plain no_entry l = nothing_plain
+derived_plain (with_constant env x A t opaque d new a b) l = constant_more env x A t opaque _ tt (derived_plain d l.0) l.1 a b
+derived_plain (with_family env f found d e c k) l = family_more env _ f (permitted f.sort found) found tt tt (derived_plain d l.0) l.1 l.2 c k
