@@ -17,6 +17,7 @@ pub mod QuietKept
 pub mod ElimKept
 pub mod ComputeKept
 pub mod BranchesKept
+pub mod RevertingKept
 pub mod RewriteKept
 pub mod RenameKept
 pub mod RulesKept

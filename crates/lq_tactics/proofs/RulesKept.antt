@@ -1,4 +1,4 @@
--- The primitives of the second table keep what holds of a proof: all but `induction` and `destruct`.
+-- The primitives of the second table keep what holds of a proof: all but `destruct`.
 use Rattle.std.proofs.Common.{◌≡◌, ◌<◌, ◌+◌, ◌^◌, ◌∙◌, ℕ, suc, refl, sym, ap, arith, true, false, length}
 use Rattle.std.proofs.Common.{subst as along}
 use Rattle.lq_trees.specs.Ticks.{◌>>=◌, within, done}
@@ -27,12 +27,13 @@ use Rattle.lq_tactics.proofs.RenameKept.{rename_reached}
 use Rattle.lq_tactics.proofs.RetypingKept.{hnf_reached, unfold_reached, change_reached, generalize_reached}
 use Rattle.lq_tactics.proofs.ElimKept.{elim_reached}
 use Rattle.lq_tactics.proofs.ComputeKept.{compute_reached}
+use Rattle.lq_tactics.proofs.RevertingKept.{induction_kept}
 use Rattle.lq_tactics.proofs.RewriteKept.{rewrite_reached}
 use Rattle.lq_tactics.proofs.PrimsKept.{LeavesRoom}
 
--- rules that are one row
+-- rules but for `destruct`
 abbrev pub IsOneRow : Rule → Type 0
-IsOneRow (induction x names) = ⊥
+IsOneRow (induction x names) = Unit {0}
 IsOneRow (destruct t names) = ⊥
 IsOneRow compute = Unit {0}
 IsOneRow (elimination_of t) = Unit {0}
@@ -58,7 +59,7 @@ names_of_rule _ = 0
 pub rule_kept : (c : Scene) (rule : Rule) (st : Step) → IsOneRow rule → IsScene c → HasRoom c (names_of_rule rule) → Gives (rule_row c rule) st → IsStep c st
 unfolding rule_row names_of_rule
 rule_kept c (elimination_of t) st o s few y = ended_kept c (do_elim c t) st s (λ d z. elim_reached c s t d few z) y
-rule_kept c (induction x names) st o s few y = absurd o
+rule_kept c (induction x names) st o s few y = induction_kept c x names st s y
 rule_kept c (destruct t names) st o s few y = absurd o
 rule_kept c (rewrite t) st o s few y = ended_kept c (do_rewrite c true t) st s (λ d z. rewrite_reached c s true t d few z) y
 rule_kept c (rewrite_back t) st o s few y = ended_kept c (do_rewrite c false t) st s (λ d z. rewrite_reached c s false t d few z) y
