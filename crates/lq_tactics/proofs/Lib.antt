@@ -18,6 +18,7 @@ pub mod ElimKept
 pub mod ComputeKept
 pub mod BranchesKept
 pub mod RevertingKept
+pub mod ArgumentsKept
 pub mod RewriteKept
 pub mod RenameKept
 pub mod RulesKept
