@@ -19,6 +19,7 @@ pub mod ComputeKept
 pub mod BranchesKept
 pub mod RevertingKept
 pub mod ArgumentsKept
+pub mod DestructKept
 pub mod RewriteKept
 pub mod RenameKept
 pub mod RulesKept
