@@ -1,4 +1,4 @@
--- The primitives of the second table keep what holds of a proof: all but `destruct`.
+-- The primitives of the second table keep what holds of a proof.
 use Rattle.std.proofs.Common.{◌≡◌, ◌<◌, ◌+◌, ◌^◌, ◌∙◌, ℕ, suc, refl, sym, ap, arith, true, false, length}
 use Rattle.std.proofs.Common.{subst as along}
 use Rattle.lq_trees.specs.Ticks.{◌>>=◌, within, done}
@@ -28,53 +28,39 @@ use Rattle.lq_tactics.proofs.RetypingKept.{hnf_reached, unfold_reached, change_r
 use Rattle.lq_tactics.proofs.ElimKept.{elim_reached}
 use Rattle.lq_tactics.proofs.ComputeKept.{compute_reached}
 use Rattle.lq_tactics.proofs.RevertingKept.{induction_kept}
+use Rattle.lq_tactics.proofs.DestructKept.{destruct_kept}
 use Rattle.lq_tactics.proofs.RewriteKept.{rewrite_reached}
 use Rattle.lq_tactics.proofs.PrimsKept.{LeavesRoom}
 
--- rules but for `destruct`
-abbrev pub IsOneRow : Rule → Type 0
-IsOneRow (induction x names) = Unit {0}
-IsOneRow (destruct t names) = ⊥
-IsOneRow compute = Unit {0}
-IsOneRow (elimination_of t) = Unit {0}
-IsOneRow (rewrite t) = Unit {0}
-IsOneRow (rewrite_back t) = Unit {0}
-IsOneRow (unfold_constant x) = Unit {0}
-IsOneRow (change A) = Unit {0}
-IsOneRow hnf = Unit {0}
-IsOneRow (clear x) = Unit {0}
-IsOneRow (rename x y) = Unit {0}
-IsOneRow (revert x) = Unit {0}
-IsOneRow (generalize t) = Unit {0}
-
--- the names that a rule makes: one for each node of a term that is written
+-- the names that a rule makes: one for each node of a term that is written; and two for each argument of a constructor, which are at most 2,000
 unfoldable pub names_of_rule : Rule → ℕ
 names_of_rule (elimination_of t) = deep t
+names_of_rule (destruct t names) = deep t + 4000
 names_of_rule (rewrite t) = deep t
 names_of_rule (rewrite_back t) = deep t
 names_of_rule (change A) = deep A
 names_of_rule (generalize t) = deep t
 names_of_rule _ = 0
 
-pub rule_kept : (c : Scene) (rule : Rule) (st : Step) → IsOneRow rule → IsScene c → HasRoom c (names_of_rule rule) → Gives (rule_row c rule) st → IsStep c st
+pub rule_kept : (c : Scene) (rule : Rule) (st : Step) → IsScene c → HasRoom c (names_of_rule rule) → Gives (rule_row c rule) st → IsStep c st
 unfolding rule_row names_of_rule
-rule_kept c (elimination_of t) st o s few y = ended_kept c (do_elim c t) st s (λ d z. elim_reached c s t d few z) y
-rule_kept c (induction x names) st o s few y = induction_kept c x names st s y
-rule_kept c (destruct t names) st o s few y = absurd o
-rule_kept c (rewrite t) st o s few y = ended_kept c (do_rewrite c true t) st s (λ d z. rewrite_reached c s true t d few z) y
-rule_kept c (rewrite_back t) st o s few y = ended_kept c (do_rewrite c false t) st s (λ d z. rewrite_reached c s false t d few z) y
-rule_kept c (unfold_constant x) st o s few y = ended_kept c (do_unfold c x ((rules c).delta x)) st s (λ d z. unfold_reached c s x ((rules c).delta x) d refl z) y
-rule_kept c (change A) st o s few y = ended_kept c (do_change c A) st s (λ d z. change_reached c s A d few z) y
-rule_kept c hnf st o s few y = ended_kept c (head_of c c.store c.kind >>= retyped c c.store) st s (λ d z. hnf_reached c s d z) y
-rule_kept c compute st o s few y = ended_kept c _ st s (λ d z. compute_reached c s d z) y
-rule_kept c (clear x) st o s few y = ended_kept c (do_clear c x) st s (λ d z. clear_reached c s x d z) y
-rule_kept c (rename x z) st o s few y = ended_kept c (do_rename c x z) st s (λ d w. rename_reached c s x z d w) y
-rule_kept c (revert x) st o s few y = ended_kept c (do_revert c x) st s (λ d z. revert_reached c s x d z) y
-rule_kept c (generalize t) st o s few y = ended_kept c (do_generalize c t) st s (λ d z. generalize_reached c s t d few z) y
+rule_kept c (elimination_of t) st s few y = ended_kept c (do_elim c t) st s (λ d z. elim_reached c s t d few z) y
+rule_kept c (induction x names) st s few y = induction_kept c x names st s y
+rule_kept c (destruct t names) st s few y = destruct_kept c s t names st few y
+rule_kept c (rewrite t) st s few y = ended_kept c (do_rewrite c true t) st s (λ d z. rewrite_reached c s true t d few z) y
+rule_kept c (rewrite_back t) st s few y = ended_kept c (do_rewrite c false t) st s (λ d z. rewrite_reached c s false t d few z) y
+rule_kept c (unfold_constant x) st s few y = ended_kept c (do_unfold c x ((rules c).delta x)) st s (λ d z. unfold_reached c s x ((rules c).delta x) d refl z) y
+rule_kept c (change A) st s few y = ended_kept c (do_change c A) st s (λ d z. change_reached c s A d few z) y
+rule_kept c hnf st s few y = ended_kept c (head_of c c.store c.kind >>= retyped c c.store) st s (λ d z. hnf_reached c s d z) y
+rule_kept c compute st s few y = ended_kept c _ st s (λ d z. compute_reached c s d z) y
+rule_kept c (clear x) st s few y = ended_kept c (do_clear c x) st s (λ d z. clear_reached c s x d z) y
+rule_kept c (rename x z) st s few y = ended_kept c (do_rename c x z) st s (λ d w. rename_reached c s x z d w) y
+rule_kept c (revert x) st s few y = ended_kept c (do_revert c x) st s (λ d z. revert_reached c s x d z) y
+rule_kept c (generalize t) st s few y = ended_kept c (do_generalize c t) st s (λ d z. generalize_reached c s t d few z) y
 
 -- ---- a rule on a goal of a proof
 
-module _ (env : Env) (p : Proof) (k : ℕ) (rule : Rule) (vs : Givens) (one : IsOneRow rule) (plain : ArePlainDeclarations env) (h : IsProof p) (i : IsStore p.store) (g : AreGiven p.store vs)
+module _ (env : Env) (p : Proof) (k : ℕ) (rule : Rule) (vs : Givens) (plain : ArePlainDeclarations env) (h : IsProof p) (i : IsStore p.store) (g : AreGiven p.store vs)
     (there : IsThere p k) (valueless : is_open p.store k ≡ true) where
   -- after the row: the store is one, and the proof stays one
   pub rule_run_kept : (n : ℕ) (d : PrimDone) → LeavesRoom p.store k (names_of_rule rule + n) → Gives (run_rule env n p k rule vs) d → IsProof d.proof × IsStore d.proof.store
@@ -87,7 +73,7 @@ module _ (env : Env) (p : Proof) (k : ℕ) (rule : Rule) (vs : Givens) (one : Is
       let s = scene_kept env n vs p.store k c.0 plain i g v.0 q in
       let same : c.0.store ≡ p.store = sym (ap (λ z. z.store) q.is) in
       let goal : k ≡ c.0.goal = ap (λ z. z.goal) q.is in
-      let step = rule_kept c.0 rule st.0 one s (along (λ z. length z.context + names_of_rule rule + z.bound < 10 ^ 64) q.is (omega (arith, few q.variable q.there))) st.1 in
+      let step = rule_kept c.0 rule st.0 s (along (λ z. length z.context + names_of_rule rule + z.bound < 10 ^ 64) q.is (omega (arith, few q.variable q.there))) st.1 in
       row_listed_kept p c.0 st.0 h s same (along (IsThere p) goal there) step d (along (λ j. Gives (listed p j st.0) d) goal st.2)
 
   pub rule_runs_kept : (n budget left : ℕ) (d : PrimDone) → LeavesRoom p.store k (names_of_rule rule + suc budget) → budget < n → within budget (run_rule env n p k rule vs) ≡ done d left → IsProof d.proof × IsStore d.proof.store
