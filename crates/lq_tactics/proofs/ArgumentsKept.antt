@@ -21,7 +21,8 @@ use Rattle.lq_solving.proofs.Later.{reads_prod}
 use Rattle.lq_tactics.specs.Rows.{RowFault, Doing, by_store_call, Scene, needed, head_of, renewed, new_goal, goal_sort}
 use Rattle.lq_tactics.specs.Applying.{Inductive, inductive_of, inductive_or, parameter_values}
 use Rattle.lq_tactics.specs.Exchanging.{first_or, fresh_names, abstracted}
-use Rattle.lq_tactics.specs.Elimination.{indices_of, predicate, typed_predicate, permitted_entry, premise_of, premise_goals, Eliminated, eliminate_at, eliminate, arguments_in}
+use Rattle.lq_tactics.specs.Elimination.{indices_of, predicate, typed_predicate, permitted_entry, premise_of, premise_goals, Eliminated, eliminate_at}
+use Rattle.lq_tactics.specs.Elimination.{eliminate, arguments_in}
 
 -- a type that begins with so many products
 abbrev HasProducts : ℕ → Tree → Type 0
@@ -117,7 +118,8 @@ needed_shallow t u y = at (nat_lt 1000000 (size t)) (nat_lt 2000 (depth t)) refl
     at false true e z = absurd z
     at false false e z = ltb-false 2000 (depth t) e
 
-premise_few : (c : Scene) (i : Inductive) (P : Tree) (k : ℕ) (A : Tree) (s : Store) (r : Store × ℕ) → Gives (new_goal c s c.context (premise_of i P k A)) r → length (arguments_in i.family A) ≤ 2000
+premise_few : (c : Scene) (i : Inductive) (P : Tree) (k : ℕ) (A : Tree) (s : Store) (r : Store × ℕ) → Gives (new_goal c s c.context (premise_of i P k A)) r →
+    length (arguments_in i.family A) ≤ 2000
 unfolding new_goal premise_of read
 premise_few c i P k A s r y =
     let a = gives_bind _ (λ B. _) r y in
@@ -129,7 +131,8 @@ premise_few c i P k A s r y =
     (replaced_products (length (arguments_in i.family A)) (instantiating (parameter_values i)) 0 t (premise_products i.family k (Rel 0) [] A))) in
     omega (arith, products_deep (length (arguments_in i.family A)) (read s (premise_of i P k A)) h, needed_shallow (read s (premise_of i P k A)) d.0 d.1)
 
-premises_few : (c : Scene) (i : Inductive) (P : Tree) (ds : List (Name × Tree)) (k : ℕ) (s : Store) (r : Store × List ℕ) → Gives (premise_goals c i P k ds s) r →
+premises_few : (c : Scene) (i : Inductive) (P : Tree) (ds : List (Name × Tree)) (k : ℕ) (s : Store) (r : Store × List ℕ) →
+    Gives (premise_goals c i P k ds s) r →
     AllByRecursion (λ d. length (arguments_in i.family d.1) ≤ 2000) ds
 unfolding premise_goals
 premises_few c i P [] k s r y = tt

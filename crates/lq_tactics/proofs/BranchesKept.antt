@@ -131,13 +131,15 @@ rest_short n s s1 k ks o g h m l =
 
 module _ (c : Scene) (plain : ArePlainDeclarations c.env) (m : Naming) (f : Family) (n : ℕ) where
   -- a goal's context is short
-  context_short : (d : Scene) (s : Store) (k : ℕ) (ks : List ℕ) → IsSceneOf c.env c.bound c.values s k d → IsScene d → AreShort n s (k ∷ ks) → length d.context ≤ n
+  context_short : (d : Scene) (s : Store) (k : ℕ) (ks : List ℕ) → IsSceneOf c.env c.bound c.values s k d → IsScene d → AreShort n s (k ∷ ks) →
+      length d.context ≤ n
   context_short d s k ks q sd h =
       let r = scene_store c d s k q in
       let names = along (λ z. names_at z.variables k ≡ names_in d.context) r.0 (along (λ j. names_at d.store.variables j ≡ names_in d.context) r.1 sd.names) in
       omega (arith, ap length names, h k (first_stands k ks), length-map d.context (λ i. i.name))
 
-  branches_done : (ds : List (Name × Tree)) (bs : List (List Name)) (ks : List ℕ) (s : Store) (st : Step) → IsStore s → AreGiven s c.values → AreOpen s ks → AreShort n s ks → HavePlace m f n ds →
+  branches_done : (ds : List (Name × Tree)) (bs : List (List Name)) (ks : List ℕ) (s : Store) (st : Step) → IsStore s → AreGiven s c.values → AreOpen s ks →
+      AreShort n s ks → HavePlace m f n ds →
       Gives (branches c m f ds bs ks s) st → AreBranched s ks st
   unfolding branches
   branches_done [] bs [] s st i g o h p y = along (AreBranched s []) y (none_branched s [] i)

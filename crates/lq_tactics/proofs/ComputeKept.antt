@@ -115,7 +115,8 @@ module _ (vs : List Variable) (as_ : List Assigned) (xs : List Name) where
   targets_open_good n m seen (t ∷ ts) l h p =
       (many_good n seen h 0 n m (omega arith) (omega (arith, l)) t (plain_good vs as_ xs m t p.0.over p.0.within p.0.holds), targets_open_good n m seen ts l h p.1)
 
-  arguments_open_good : (n m : ℕ) (again : Tree) (seen : List Tree) (rs : Arguments) (args : List Tree) → length seen ≡ m → Good n again → AllGood n seen → AllGood n args → ArePlain m rs →
+  arguments_open_good : (n m : ℕ) (again : Tree) (seen : List Tree) (rs : Arguments) (args : List Tree) → length seen ≡ m → Good n again → AllGood n seen →
+      AllGood n args → ArePlain m rs →
       AllGood n (premise_arguments again seen rs args)
   unfolding premise_arguments
   arguments_open_good n m again seen [] args l a h k p = tt
@@ -158,7 +159,8 @@ module _ (vs : List Variable) (as_ : List Assigned) (xs : List Name) where
       scrutinee_open_good f a u gf ih None k w = absurd (grind (arith, w))
       scrutinee_open_good f a u gf ih (Some a1) k w = some_is (App f a1) u w (gf, ih a1 k)
 
-      rest_open_good : (f a u : Tree) → Good n f → Good n a → ((a1 : Tree) → contract r g a ≡ Some a1 → Good n a1) → (o : Option Elimination) → elimination r f ≡ o →
+      rest_open_good : (f a u : Tree) → Good n f → Good n a → ((a1 : Tree) → contract r g a ≡ Some a1 → Good n a1) → (o : Option Elimination) →
+          elimination r f ≡ o →
           elim o as (λ z. Option Tree) [
             | None ↦ None
             | Some e ↦ elim (iota r e a) [ Some t ↦ Some t | None ↦ elim (contract r g a) [ Some a1 ↦ Some (App f a1) | None ↦ None ] ]
@@ -166,11 +168,13 @@ module _ (vs : List Variable) (as_ : List Assigned) (xs : List Name) where
       rest_open_good f a u gf ga ih None k w = absurd (grind (arith, w))
       rest_open_good f a u gf ga ih (Some e) k w = by_iota (iota r e a) refl w
         where
-          by_iota : (o : Option Tree) → iota r e a ≡ o → elim o as (λ z. Option Tree) [ Some t ↦ Some t | None ↦ elim (contract r g a) [ Some a1 ↦ Some (App f a1) | None ↦ None ] ] ≡ Some u → Good n u
+          by_iota : (o : Option Tree) → iota r e a ≡ o →
+              elim o as (λ z. Option Tree) [ Some t ↦ Some t | None ↦ elim (contract r g a) [ Some a1 ↦ Some (App f a1) | None ↦ None ] ] ≡ Some u → Good n u
           by_iota (Some t) i v = some_is t u v (iota_open_good f a e t gf ga (elimination_is r f e k) (iota_fires r e a t i))
           by_iota None i v = scrutinee_open_good f a u gf ih (contract r g a) refl v
 
-      function_open_good : (f a u : Tree) → Good n f → Good n a → ((f1 : Tree) → contract r g f ≡ Some f1 → Good n f1) → ((a1 : Tree) → contract r g a ≡ Some a1 → Good n a1) →
+      function_open_good : (f a u : Tree) → Good n f → Good n a → ((f1 : Tree) → contract r g f ≡ Some f1 → Good n f1) →
+          ((a1 : Tree) → contract r g a ≡ Some a1 → Good n a1) →
           (o : Option Tree) → contract r g f ≡ o →
           elim o as (λ z. Option Tree) [
             | Some f1 ↦ Some (App f1 a)
@@ -182,7 +186,8 @@ module _ (vs : List Variable) (as_ : List Assigned) (xs : List Name) where
       function_open_good f a u gf ga ihf iha (Some f1) c v = some_is (App f1 a) u v (ihf f1 c, ga)
       function_open_good f a u gf ga ihf iha None c v = rest_open_good f a u gf ga iha (elimination r f) refl v
 
-      application_open_good : (f a u : Tree) → Good n f → Good n a → ((f1 : Tree) → contract r g f ≡ Some f1 → Good n f1) → ((a1 : Tree) → contract r g a ≡ Some a1 → Good n a1) →
+      application_open_good : (f a u : Tree) → Good n f → Good n a → ((f1 : Tree) → contract r g f ≡ Some f1 → Good n f1) →
+          ((a1 : Tree) → contract r g a ≡ Some a1 → Good n a1) →
           (o : Option Tree) → beta f a ≡ o →
           elim o as (λ z. Option Tree) [
             | Some t ↦ Some t
@@ -214,7 +219,8 @@ module _ (vs : List Variable) (as_ : List Assigned) (xs : List Name) where
       contract_open_good (Evar k ts) u h e = absurd (grind (arith, e))
 
 -- the normal form of the goal's type becomes its type
-pub compute_reached : (c : Scene) → IsScene c → (d : Done) → Gives (normal (rules c) (read_context c.store c.context) c.bound c.kind >>= needed_form >>= retyped c c.store) d → IsReached c d
+pub compute_reached : (c : Scene) → IsScene c → (d : Done) →
+    Gives (normal (rules c) (read_context c.store c.context) c.bound c.kind >>= needed_form >>= retyped c c.store) d → IsReached c d
 compute_reached c s d y =
     let g = read_context c.store c.context in
     let a = gives_bind (normal (rules c) g c.bound c.kind >>= needed_form) (retyped c c.store) d y in

@@ -54,7 +54,8 @@ module _ (c : Scene) (s : IsScene c) (few : length c.context + 4000 < 10 ^ 64) w
   term_destructed f names st k y =
       eliminate_and_intro_kept (record { keeps = false; own_name = None; reverted = [] }) names f c st s k (λ e w o. (eliminate_few c f e w, omega (arith, few))) y
 
-  destructed_kept : (f : Found) (t : Tree) (names : Option (List (List Name))) (st : Step) → Finds c.store c.context f → Gives (destructed c f t names) st → IsStep c st
+  destructed_kept : (f : Found) (t : Tree) (names : Option (List (List Name))) (st : Step) → Finds c.store c.context f → Gives (destructed c f t names) st →
+      IsStep c st
   unfolding destructed
   destructed_kept f (Var x) names st k y = hypothesis_destructed f x names st k y
   destructed_kept f (Rel i) names st k y = term_destructed f names st k y
@@ -70,7 +71,8 @@ module _ (c : Scene) (s : IsScene c) (few : length c.context + 4000 < 10 ^ 64) w
   destructed_kept f (Evar i ts) names st k y = term_destructed f names st k y
 
 -- 4,000 names: two for each argument of a constructor, of which a goal within the limits has at most 2,000
-pub destruct_kept : (c : Scene) → IsScene c → (t : Surface) (names : Option (List (List Name))) (st : Step) → HasRoom c (deep t + 4000) → Gives (do_destruct c t names) st → IsStep c st
+pub destruct_kept : (c : Scene) → IsScene c → (t : Surface) (names : Option (List (List Name))) (st : Step) → HasRoom c (deep t + 4000) →
+    Gives (do_destruct c t names) st → IsStep c st
 unfolding do_destruct
 destruct_kept c s t names st few y =
     let f = gives_bind (term_of c t None) _ st y in

@@ -1,5 +1,6 @@
 -- Predicates and the elimination of a term keep what holds.
-use Rattle.std.proofs.Common.{◌≡◌, ◌≤◌, ◌<◌, ◌+◌, ◌∙◌, ℕ, zero, suc, refl, sym, ap, arith, eqb, eqb-true, Bool, true, false, ◌||◌, if◌then◌else◌, List, [], ◌∷◌, ◌++◌, map, length, drop, append_assoc, append-nil, Option, Some, None}
+use Rattle.std.proofs.Common.{◌≡◌, ◌≤◌, ◌<◌, ◌+◌, ◌∙◌, ℕ, zero, suc, refl, sym, ap, arith, eqb, eqb-true, Bool, true, false, ◌||◌, if◌then◌else◌, List, [], ◌∷◌}
+use Rattle.std.proofs.Common.{◌++◌, map, length, drop, append_assoc, append-nil, Option, Some, None}
 use Rattle.std.proofs.Common.{subst as along}
 use Rattle.std.proofs.lemmas.List.{length-map, length-drop}
 use Rattle.std.specs.Prelude.{slice_get, codes}
@@ -31,7 +32,8 @@ use Rattle.lq_states.specs.Kept.{times}
 use Rattle.lq_tactics.specs.Rows.{Scene, Done, head_of, renewed, new_goal, goal_term, term_of, goal_sort}
 use Rattle.lq_tactics.specs.Applying.{Inductive, inductive_of, inductive_or, parameter_values, parameters_of, premise_terms}
 use Rattle.lq_tactics.specs.Exchanging.{first_or, fresh_names, exchanged, abstracted, over}
-use Rattle.lq_tactics.specs.Elimination.{over_indices, indices_of, predicate, typed_predicate, permitted_entry, premise_of, premise_goals, Eliminated, eliminate_at, eliminate, do_elim}
+use Rattle.lq_tactics.specs.Elimination.{over_indices, indices_of, predicate, typed_predicate, permitted_entry, premise_of, premise_goals, Eliminated}
+use Rattle.lq_tactics.specs.Elimination.{eliminate_at, eliminate, do_elim}
 use Rattle.lq_tactics.proofs.BetaKept.{subst_open_good}
 use Rattle.lq_tactics.proofs.RowsKept.{IsScene, AreNew, IsReached, IsMade, head_good, goal_made, same_values, unborn_valueless}
 use Rattle.lq_tactics.proofs.StepsKept.{first_stands}

@@ -10,13 +10,15 @@ use Rattle.lq_trees.specs.Fresh.{is_listed, fresh_of, opened, under, under_let}
 use Rattle.lq_trees.specs.Ticks.{gives, fails, ◌>>=◌}
 use Rattle.lq_calculus.proofs.ConvSound.{Gives, gives_bind}
 use Rattle.lq_solving.specs.Occurs.{holds_variable, holds_hypothesis}
-use Rattle.lq_solving.specs.Stores.{Store, Variable, StoreFault, names_in, has_value, count, most_variables, read, new_variable, with_variable, with_value, read_too_large}
+use Rattle.lq_solving.specs.Stores.{Store, Variable, StoreFault, names_in, has_value, count, most_variables, read, new_variable, with_variable, with_value}
+use Rattle.lq_solving.specs.Stores.{read_too_large}
 use Rattle.lq_solving.specs.Kept.{StandsIn}
 use Rattle.lq_solving.proofs.FreshLaws.{fresh_of_new}
 use Rattle.lq_solving.proofs.StoreLaws.{get_end}
 use Rattle.lq_solving.proofs.StandsLaws.{listed_more, domain_stands, rest_stands}
 use Rattle.lq_states.specs.Kept.{times}
-use Rattle.lq_tactics.specs.Rows.{RowFault, Doing, by_store_call, Scene, Done, Step, done_by, needed, scene, new_goal, goal_term, given_to, ended, then_on, then_next, stays, still_used}
+use Rattle.lq_tactics.specs.Rows.{RowFault, Doing, by_store_call, Scene, Done, Step, done_by, needed, scene, new_goal, goal_term, given_to, ended, then_on}
+use Rattle.lq_tactics.specs.Rows.{then_next, stays, still_used}
 use Rattle.lq_tactics.specs.Exchanging.{first_or}
 use Rattle.lq_tactics.specs.Primitives.{intro_name, under_product, under_value, intro_on, binder_form, do_intro}
 use Rattle.lq_tactics.specs.Hypotheses.{hypothesis_named, some_holds, without_name, do_clear}
@@ -33,7 +35,8 @@ abbrev pub AreAt : Context → Store → List ℕ → Type 0
 AreAt g s ks = (k : ℕ) (v : Variable) → 1 ≤ times ks k → slice_get s.variables k ≡ Some v → v.context ≡ g
 
 -- a new goal: the values stay, and it has its context
-pub goal_there : (c : Scene) (s : Store) (g : Context) (A : Tree) (r : Store × ℕ) → Gives (new_goal c s g A) r → (r.0.values ≡ s.values) × AreAt g r.0 (r.1 ∷ [])
+pub goal_there : (c : Scene) (s : Store) (g : Context) (A : Tree) (r : Store × ℕ) → Gives (new_goal c s g A) r →
+    (r.0.values ≡ s.values) × AreAt g r.0 (r.1 ∷ [])
 unfolding new_goal new_variable with_variable
 goal_there c s g A r y =
     let a = gives_bind _ (λ B. _) r y in
@@ -66,7 +69,8 @@ given_is k d st y = let a = gives_bind (needed (read d.store d.body)) _ st y in 
     at b false e true z = absurd z
     at b false e false z = record { body = b; is = z; valueless = e }
 
-pub ended_at : (c : Scene) (p : Doing Done) (g : Context) (st : Step) → ((d : Done) → Gives p d → AreAt g d.store d.goals) → Gives (ended c p) st → AreAt g st.store st.goals
+pub ended_at : (c : Scene) (p : Doing Done) (g : Context) (st : Step) → ((d : Done) → Gives p d → AreAt g d.store d.goals) → Gives (ended c p) st →
+    AreAt g st.store st.goals
 unfolding ended with_value
 ended_at c p g st f y = let a = gives_bind p (given_to c.goal) st y in along (λ z. AreAt g z.store z.goals) (given_is c.goal a.0 st a.2).is (f a.0 a.1)
 
@@ -79,7 +83,8 @@ pub record IsQuiet (c : Scene) (st : Step) : Type 0 where
 pub stays_quiet : (c : Scene) → IsScene c → has_value c.store c.goal ≡ false → IsQuiet c (stays c)
 stays_quiet c s e = record { step = stays_kept c s e; others = λ j l n. refl }
 
-pub ended_quiet : (c : Scene) (p : Doing Done) (st : Step) → IsScene c → ((d : Done) → Gives p d → IsReached c d × (d.store.values ≡ c.store.values)) → Gives (ended c p) st → IsQuiet c st
+pub ended_quiet : (c : Scene) (p : Doing Done) (st : Step) → IsScene c → ((d : Done) → Gives p d → IsReached c d × (d.store.values ≡ c.store.values)) →
+    Gives (ended c p) st → IsQuiet c st
 unfolding ended
 ended_quiet c p st s f y = record {
   step = ended_kept c p st s (λ d z. (f d z).0) y;
@@ -93,7 +98,8 @@ pub then_leads : (c : Scene) (st st2 : Step) (next : Scene → Doing Step) (P : 
 unfolding then_next then_on
 then_leads c st st2 next P s k now later y = at st.goals refl y
   where
-    at : (ks : List ℕ) → st.goals ≡ ks → Gives (elim ks as (λ z. Doing Step) [ [] ↦ gives st | j ∷ js ↦ scene c.env c.bound c.values st.store j >>= next ]) st2 → P
+    at : (ks : List ℕ) → st.goals ≡ ks →
+        Gives (elim ks as (λ z. Doing Step) [ [] ↦ gives st | j ∷ js ↦ scene c.env c.bound c.values st.store j >>= next ]) st2 → P
     at [] e z = now e z
     at (j ∷ js) e z =
         let a = gives_bind (scene c.env c.bound c.values st.store j) next st2 z in
@@ -195,7 +201,8 @@ return_quiet (x ∷ xs) c st s e y =
 scene_near : (c d : Scene) (s : Store) (ks : List ℕ) (k m : ℕ) → 1 ≤ times ks k → IsSceneOf c.env c.bound c.values s k d → AreNear m s ks → length d.context ≤ m
 scene_near c d s ks k m l q f = along (λ z. length z.context ≤ m) q.is (f k q.variable l q.there)
 
-pub scene_at : (c d : Scene) (s : Store) (ks : List ℕ) (k : ℕ) (g : Context) → 1 ≤ times ks k → IsSceneOf c.env c.bound c.values s k d → AreAt g s ks → d.context ≡ g
+pub scene_at : (c d : Scene) (s : Store) (ks : List ℕ) (k : ℕ) (g : Context) → 1 ≤ times ks k → IsSceneOf c.env c.bound c.values s k d → AreAt g s ks →
+    d.context ≡ g
 scene_at c d s ks k g l q f = along (λ z. z.context ≡ g) q.is (f k q.variable l q.there)
 
 -- a hypothesis less
@@ -204,7 +211,8 @@ unfolding without_name
 shorter x [] = omega arith
 shorter x (h ∷ g) = at (same_name h.name x) (shorter x g)
   where
-    at : (b : Bool) → length (without_name x g) ≤ length g → length (elim b as (λ z. Context) [ true ↦ without_name x g | false ↦ h ∷ without_name x g ]) ≤ suc (length g)
+    at : (b : Bool) → length (without_name x g) ≤ length g →
+        length (elim b as (λ z. Context) [ true ↦ without_name x g | false ↦ h ∷ without_name x g ]) ≤ suc (length g)
     at true l = omega (arith, l)
     at false l = omega (arith, l)
 
@@ -234,7 +242,8 @@ module _ (c : Scene) (s : IsScene c) where
       named : Gives (do_intro c (Some y)) d → IsReached c d × AreNear (suc (length c.context)) d.store d.goals × (d.store.values ≡ c.store.values)
       named w = let r = intro_reached c s (Some y) d (λ e. absurd (grind (arith, e))) w in (r.0, r.1, intro_values c (Some y) d w)
 
-      at : (t : Tree) → StandsIn c.store c.context t → Gives (intro_unnamed c y t) d → IsReached c d × AreNear (suc (length c.context)) d.store d.goals × (d.store.values ≡ c.store.values)
+      at : (t : Tree) → StandsIn c.store c.context t → Gives (intro_unnamed c y t) d →
+          IsReached c d × AreNear (suc (length c.context)) d.store d.goals × (d.store.values ≡ c.store.values)
       at (Prod b A B) h w =
           let r = product_reached c s y [] A B d new (domain_stands c.store s.store (names_in c.context) b A B h) (rest_stands c.store s.store (names_in c.context) b A B h) w in
           (r.0, r.1, product_values c y [] A B d w)
@@ -253,7 +262,8 @@ module _ (c : Scene) (s : IsScene c) where
   unnamed_quiet : (y : Name) (st : Step) → is_listed (names_in c.context) y ≡ false → Gives (ended c (intro_unnamed c y c.kind)) st → IsQuiet c st
   unnamed_quiet y st new z = ended_quiet c (intro_unnamed c y c.kind) st s (λ d w. let r = unnamed_reached y c.kind d new s.kind w in (r.0, r.2)) z
 
-  unnamed_near : (y : Name) (st : Step) → is_listed (names_in c.context) y ≡ false → Gives (ended c (intro_unnamed c y c.kind)) st → AreNear (suc (length c.context)) st.store st.goals
+  unnamed_near : (y : Name) (st : Step) → is_listed (names_in c.context) y ≡ false → Gives (ended c (intro_unnamed c y c.kind)) st →
+      AreNear (suc (length c.context)) st.store st.goals
   unfolding ended with_value
   unnamed_near y st new z =
       let a = gives_bind (intro_unnamed c y c.kind) (given_to c.goal) st z in
@@ -263,7 +273,8 @@ module _ (c : Scene) (s : IsScene c) where
 abbrev IsNext : Naming → ℕ → Step → (List Name → Scene → Doing Step) → Type 0
 IsNext m n st next = (ns : List Name) (d : Scene) → IsScene d → has_value d.store d.goal ≡ false → LeavesPlace m (length d.context) n → Gives (next ns d) st → IsQuiet d st
 
-hypothesis_quiet : (m : Naming) (ns : List Name) (a : Name) (c : Scene) (next : List Name → Scene → Doing Step) (n : ℕ) (st : Step) → IsScene c → LeavesPlace m (suc (length c.context)) n → IsNext m n st next →
+hypothesis_quiet : (m : Naming) (ns : List Name) (a : Name) (c : Scene) (next : List Name → Scene → Doing Step) (n : ℕ) (st : Step) → IsScene c →
+    LeavesPlace m (suc (length c.context)) n → IsNext m n st next →
     Gives (intro_hypothesis m ns a c next) st → IsQuiet c st
 unfolding intro_hypothesis
 hypothesis_quiet m ns a c next n st s few f y = at m.keeps refl y
@@ -288,13 +299,15 @@ hypothesis_quiet m ns a c next n st s few f y = at m.keeps refl y
         then_quiet c b.0 st (λ d. ended d (do_clear d x) >>= λ st2. then_next d st2 (next ns)) s (unnamed_quiet c s x b.0 new b.1)
         (λ k d l v q sd w. cleared d sd (scene_near c d b.0.store b.0.goals k (suc (length c.context)) l q near) w) b.2
       where
-        cleared : (d : Scene) → IsScene d → length d.context ≤ suc (length c.context) → Gives (ended d (do_clear d x) >>= λ st2. then_next d st2 (next ns)) st → IsQuiet d st
+        cleared : (d : Scene) → IsScene d → length d.context ≤ suc (length c.context) →
+            Gives (ended d (do_clear d x) >>= λ st2. then_next d st2 (next ns)) st → IsQuiet d st
         cleared d sd l w =
             let b = gives_bind (ended d (do_clear d x)) _ st w in
             then_quiet d b.0 st (next ns) sd (clear_quiet d sd x b.0 b.1)
             (λ k d1 l1 v q sd1 w1. f ns d1 sd1 v (λ o. omega (arith, few o, l, shorter x d.context, ap length (scene_at d d1 b.0.store b.0.goals k (without_name x d.context) l1 q (clear_at d sd x b.0 b.1)))) w1) b.2
 
-pub arguments_quiet : (m : Naming) (as_ : List (Name × Bool)) (ns : List Name) (c : Scene) (st : Step) → IsScene c → has_value c.store c.goal ≡ false → LeavesPlace m (length c.context) (length as_) →
+pub arguments_quiet : (m : Naming) (as_ : List (Name × Bool)) (ns : List Name) (c : Scene) (st : Step) → IsScene c → has_value c.store c.goal ≡ false →
+    LeavesPlace m (length c.context) (length as_) →
     Gives (intro_arguments m as_ ns c) st → IsQuiet c st
 unfolding intro_arguments
 arguments_quiet m [] ns c st s e few y = return_quiet m.reverted c st s e y
@@ -307,13 +320,15 @@ arguments_quiet m (a ∷ as_) ns c st s e few y =
     x : Name
     x = branch_name m c (first_or ns (argument_name m.own_name a))
 
-    at : (o : Bool) (d : Scene) → IsScene d → has_value d.store d.goal ≡ false → length d.context ≤ suc (length c.context) → IsNext m (length as_) st (intro_arguments m as_) →
+    at : (o : Bool) (d : Scene) → IsScene d → has_value d.store d.goal ≡ false → length d.context ≤ suc (length c.context) →
+        IsNext m (length as_) st (intro_arguments m as_) →
         Gives {F = RowFault} (elim o as (λ z. Doing Step) [ false ↦ intro_arguments m as_ (drop 1 ns) d | true ↦ intro_hypothesis m (drop 1 ns) x d (intro_arguments m as_) ]) st → IsQuiet d st
     at false d sd v l ih w = ih (drop 1 ns) d sd v (λ o. omega (arith, few o, l)) w
     at true d sd v l ih w = hypothesis_quiet m (drop 1 ns) x d (intro_arguments m as_) (length as_) st sd (λ o. omega (arith, few o, l)) ih w
 
 -- the branch of a constructor
-pub branch_quiet : (m : Naming) (o : Option Name) (as_ : List (Name × Bool)) (ns : List Name) (c : Scene) (st : Step) → IsScene c → has_value c.store c.goal ≡ false → LeavesPlace m (length c.context) (length as_) →
+pub branch_quiet : (m : Naming) (o : Option Name) (as_ : List (Name × Bool)) (ns : List Name) (c : Scene) (st : Step) → IsScene c →
+    has_value c.store c.goal ≡ false → LeavesPlace m (length c.context) (length as_) →
     Gives (branch m o as_ ns c) st → IsQuiet c st
 unfolding branch
 branch_quiet m None as_ ns c st s e few y = arguments_quiet m as_ ns c st s e few y

@@ -19,7 +19,8 @@ use Rattle.lq_solving.proofs.StandsLaws.{var_stands}
 use Rattle.lq_solving.proofs.ElabKept.{Grown, grown_now, kinds_stand}
 use Rattle.lq_states.specs.Kept.{times}
 use Rattle.lq_tactics.specs.Rows.{RowFault, Doing, Scene, Done, Step, done_by, scene, new_goal, goal_term, ended, then_on, then_next, stays, still_used}
-use Rattle.lq_tactics.specs.Hypotheses.{hypothesis_named, hypothesis_holds, some_holds, without_name, reverted_type, reverted_body, do_revert, dependents, revert_each}
+use Rattle.lq_tactics.specs.Hypotheses.{hypothesis_named, hypothesis_holds, some_holds, without_name, reverted_type, reverted_body, do_revert, dependents}
+use Rattle.lq_tactics.specs.Hypotheses.{revert_each}
 use Rattle.lq_tactics.specs.Elimination.{eliminate_hypothesis, reverting, do_induction}
 use Rattle.lq_tactics.proofs.RowsKept.{IsScene, IsStep, IsSceneOf, ended_kept, scene_is, scene_kept}
 use Rattle.lq_tactics.proofs.StepsKept.{one_is, then_kept}
@@ -51,11 +52,13 @@ less_without y (k ∷ g) h e = at (same_name k.name y) e (λ q. less_without y g
     shorter [] = omega arith
     shorter (k1 ∷ g1) = by (same_name k1.name y) (shorter g1)
       where
-        by : (b : Bool) → length (without_name y g1) ≤ length g1 → length (elim b as (λ z. Context) [ true ↦ without_name y g1 | false ↦ k1 ∷ without_name y g1 ]) ≤ suc (length g1)
+        by : (b : Bool) → length (without_name y g1) ≤ length g1 →
+            length (elim b as (λ z. Context) [ true ↦ without_name y g1 | false ↦ k1 ∷ without_name y g1 ]) ≤ suc (length g1)
         by true l = omega (arith, l)
         by false l = omega (arith, l)
 
-    at : (b : Bool) → elim b as (λ z. Option Hypothesis) [ true ↦ Some k | false ↦ hypothesis g y ] ≡ Some h → (hypothesis g y ≡ Some h → suc (length (without_name y g)) ≤ length g) →
+    at : (b : Bool) → elim b as (λ z. Option Hypothesis) [ true ↦ Some k | false ↦ hypothesis g y ] ≡ Some h →
+        (hypothesis g y ≡ Some h → suc (length (without_name y g)) ≤ length g) →
         suc (length (elim b as (λ z. Context) [ true ↦ without_name y g | false ↦ k ∷ without_name y g ])) ≤ suc (length g)
     at true q ih = omega (arith, shorter g)
     at false q ih = omega (arith, ih q)
@@ -90,7 +93,8 @@ turned_apart x (y ∷ ys) h = along (AreApart x) (sym (reverse-append (y ∷ [])
 -- ---- hypotheses reverted one after the other
 
 -- `revert`: the goal's context is the one without the hypothesis, which was there
-revert_there : (c : Scene) (y : Name) (d : Done) → Gives (do_revert c y) d → AreAt (without_name y c.context) d.store d.goals × (suc (length (without_name y c.context)) ≤ length c.context)
+revert_there : (c : Scene) (y : Name) (d : Done) → Gives (do_revert c y) d →
+    AreAt (without_name y c.context) d.store d.goals × (suc (length (without_name y c.context)) ≤ length c.context)
 unfolding do_revert
 revert_there c y d z = let h = gives_bind (hypothesis_named c y) _ d z in at h.0 (named_is c y h.0 h.1) (some_holds c.store y (without_name y c.context)) h.2
   where
@@ -120,7 +124,8 @@ still_now c x h s q =
       fewer = omega (arith, ap length s.names, length-map c.context (λ i. i.name));
     }
 
-reverted_still : (x : Name) (h : Hypothesis) (ys : List Name) (c : Scene) (st : Step) → IsScene c → hypothesis c.context x ≡ Some h → AreApart x ys → Gives (revert_each ys c) st → (k : ℕ) → 1 ≤ times st.goals k →
+reverted_still : (x : Name) (h : Hypothesis) (ys : List Name) (c : Scene) (st : Step) → IsScene c → hypothesis c.context x ≡ Some h → AreApart x ys →
+    Gives (revert_each ys c) st → (k : ℕ) → 1 ≤ times st.goals k →
     HasStill st.store k x h.kind (length ys) (length c.context)
 unfolding revert_each times ended
 reverted_still x h [] c st s q a y k l =
@@ -160,7 +165,8 @@ abbrev pub KeepsNext : Name → ℕ → Step → (Tree → List Name → Scene �
 KeepsNext x most st next =
     (A : Tree) (ds : List Name) (d : Scene) → IsScene d → StandsIn d.store d.context A → is_listed (names_in d.context) x ≡ true → length d.context + length ds ≤ most → Gives (next A ds d) st → IsStep d st
 
-scene_still : (c d : Scene) (s : Store) (k : ℕ) (x : Name) (A : Tree) (n most : ℕ) → IsSceneOf c.env c.bound c.values s k d → IsScene d → HasStill s k x A n most →
+scene_still : (c d : Scene) (s : Store) (k : ℕ) (x : Name) (A : Tree) (n most : ℕ) → IsSceneOf c.env c.bound c.values s k d → IsScene d →
+    HasStill s k x A n most →
     StandsIn d.store d.context A × (is_listed (names_in d.context) x ≡ true) × (length d.context + n ≤ most)
 scene_still c d s k x A n most q sd h =
     let r = scene_store c d s k q in
@@ -175,15 +181,18 @@ unfolding revert_each
 only_stays c st y = y
 
 -- a first goal is the next one's
-stays_next : (c : Scene) (st : Step) (next : Scene → Doing Step) → Gives (then_next c (stays c) next) st → Gives (scene c.env c.bound c.values c.store c.goal >>= next) st
+stays_next : (c : Scene) (st : Step) (next : Scene → Doing Step) → Gives (then_next c (stays c) next) st →
+    Gives (scene c.env c.bound c.values c.store c.goal >>= next) st
 unfolding then_next then_on
 stays_next c st next y = y
 
-more_next : (c : Scene) (z : Name) (ys : List Name) (st : Step) → Gives (revert_each (z ∷ ys) c) st → Gives (ended c (do_revert c z) >>= λ st1. then_next c st1 (revert_each ys)) st
+more_next : (c : Scene) (z : Name) (ys : List Name) (st : Step) → Gives (revert_each (z ∷ ys) c) st →
+    Gives (ended c (do_revert c z) >>= λ st1. then_next c st1 (revert_each ys)) st
 unfolding revert_each
 more_next c z ys st y = y
 
-pub reverting_kept : (c : Scene) (x : Name) (next : Tree → List Name → Scene → Doing Step) (st : Step) → IsScene c → KeepsNext x (length c.context) st next → Gives (reverting c x next) st → IsStep c st
+pub reverting_kept : (c : Scene) (x : Name) (next : Tree → List Name → Scene → Doing Step) (st : Step) → IsScene c → KeepsNext x (length c.context) st next →
+    Gives (reverting c x next) st → IsStep c st
 unfolding reverting is_listed
 reverting_kept c x next st s f y =
     let h = gives_bind (hypothesis_named c x) _ st y in

@@ -5,7 +5,8 @@ use Rattle.lq_trees.specs.Ticks.{◌>>=◌, within, done}
 use Rattle.lq_trees.proofs.TickLaws.{agree_within}
 use Rattle.lq_calculus.specs.Declarations.{Env}
 use Rattle.lq_calculus.proofs.ConvSound.{Gives, gives_bind, done_gives}
-use Rattle.lq_ast.specs.Syntax.{Rule, elimination_of, induction, destruct, rewrite, rewrite_back, unfold_constant, change, hnf, compute, clear, rename, revert, generalize}
+use Rattle.lq_ast.specs.Syntax.{Rule, elimination_of, induction, destruct, rewrite, rewrite_back, unfold_constant, change, hnf, compute, clear, rename, revert}
+use Rattle.lq_ast.specs.Syntax.{generalize}
 use Rattle.lq_solving.specs.Stores.{is_open}
 use Rattle.lq_solving.specs.Kept.{IsStore}
 use Rattle.lq_solving.specs.Claims.{ArePlainDeclarations}
@@ -63,7 +64,8 @@ rule_kept c (generalize t) st s few y = ended_kept c (do_generalize c t) st s (�
 module _ (env : Env) (p : Proof) (k : ℕ) (rule : Rule) (vs : Givens) (plain : ArePlainDeclarations env) (h : IsProof p) (i : IsStore p.store) (g : AreGiven p.store vs)
     (there : IsThere p k) (valueless : is_open p.store k ≡ true) where
   -- after the row: the store is one, and the proof stays one
-  pub rule_run_kept : (n : ℕ) (d : PrimDone) → LeavesRoom p.store k (names_of_rule rule + n) → Gives (run_rule env n p k rule vs) d → IsProof d.proof × IsStore d.proof.store
+  pub rule_run_kept : (n : ℕ) (d : PrimDone) → LeavesRoom p.store k (names_of_rule rule + n) → Gives (run_rule env n p k rule vs) d →
+      IsProof d.proof × IsStore d.proof.store
   unfolding run_rule
   rule_run_kept n d few y =
       let c = gives_bind (scene env n vs p.store k) _ d y in
@@ -76,6 +78,7 @@ module _ (env : Env) (p : Proof) (k : ℕ) (rule : Rule) (vs : Givens) (plain : 
       let step = rule_kept c.0 rule st.0 s (along (λ z. length z.context + names_of_rule rule + z.bound < 10 ^ 64) q.is (omega (arith, few q.variable q.there))) st.1 in
       row_listed_kept p c.0 st.0 h s same (along (IsThere p) goal there) step d (along (λ j. Gives (listed p j st.0) d) goal st.2)
 
-  pub rule_runs_kept : (n budget left : ℕ) (d : PrimDone) → LeavesRoom p.store k (names_of_rule rule + suc budget) → budget < n → within budget (run_rule env n p k rule vs) ≡ done d left → IsProof d.proof × IsStore d.proof.store
+  pub rule_runs_kept : (n budget left : ℕ) (d : PrimDone) → LeavesRoom p.store k (names_of_rule rule + suc budget) → budget < n →
+      within budget (run_rule env n p k rule vs) ≡ done d left → IsProof d.proof × IsStore d.proof.store
   rule_runs_kept n budget left d few l e =
       rule_run_kept (suc budget) d few (done_gives budget (run_rule env (suc budget) p k rule vs) d left (agree_within budget _ _ (rule_settled env p k rule vs budget (suc budget) n (omega arith) l) budget (omega arith) ∙ e))
