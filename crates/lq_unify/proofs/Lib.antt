@@ -39,3 +39,5 @@ pub mod OpenSteps
 pub mod PushLaws
 pub mod FormTurns
 pub mod TurnSteps
+pub mod OneForm
+pub mod CallLaws

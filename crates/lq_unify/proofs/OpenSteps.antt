@@ -51,6 +51,10 @@ module _ (old new : Terms) (g : Grows old new) (s t : Places) (e : t ≡ s) (hs 
 pub same_more : (s t : Places) → t ≡ s → GivesMore s t
 same_more s t e = along (GivesMore s) (sym e) (record { variables = refl; more = []; values = sym (append-nil s.values) })
 
+-- where nothing waits
+pub since_itself : (s : Places) (fs : List Frame) → fs ≡ [] → IsSince s s fs
+since_itself s fs e = along (IsSince s s) (sym e) (record { more = same_more s s refl; keep = tt })
+
 pub more_since : (before s t : Places) (fs : List Frame) → GivesMore s t → IsSince before s fs → IsSince before t fs
 more_since before s t fs m h = record {
   more = record {

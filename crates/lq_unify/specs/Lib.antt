@@ -15,3 +15,4 @@ pub mod Frames
 pub mod Turns
 pub mod Telling
 pub mod Reducing
+pub mod Faults

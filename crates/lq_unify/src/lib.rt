@@ -10,13 +10,17 @@ mod frames;
 mod givens;
 mod holding;
 mod inverting;
+mod machine;
 mod pairs;
 mod parts;
+mod reducing;
 mod replacing;
 mod resuming;
 mod solving;
 mod spines;
 mod splitting;
 mod turns;
+mod unifying;
 
 pub use faults::UnifyFault;
+pub use unifying::unify;
