@@ -153,6 +153,6 @@ line_of_found bank env x k d y e h = ap (known_line env x) e ∙ ap Ok (sym h)
 -- why there is none
 pub fault_of_found : (bank : Terms) (env : Env) (x : Name) (f : PrintFault) (d : TreeKnown) → Knows bank (Err f) d → Prints bank (Err f) (known_line env x d)
 unfolding known_line
-fault_of_found bank env x (PrintFault.Unknown y) d h = ap (known_line env x) h
-fault_of_found bank env x (PrintFault.ElimForbidden y s) d h = ap (known_line env x) h
+fault_of_found bank env x (PrintFault.Unknown y) d h = (h.0, ap (known_line env x) h.1)
+fault_of_found bank env x (PrintFault.ElimForbidden y s) d h = (h.0, ap (known_line env x) h.1)
 fault_of_found bank env x PrintFault.NoMemory d h = tt

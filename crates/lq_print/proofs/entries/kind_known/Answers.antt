@@ -11,6 +11,8 @@ returns-in-Some-clause-known c =
 
 pub returns-in-None-clause-known : goal.returns-in-None-clause-known
 returns-in-None-clause-known c =
-    let own : IsOwn c.args.bank.now c.args.name = record { has = c.requires.name; apart = λ other h e. c.names_apart.ensures other c.args.name h c.requires.name e } in
-    kind_none (text_of c.args.bank.now c.args.name) (kind_of (env_of c.args.bank.now c.args.env.now) (text_of c.args.bank.now c.args.name))
-    (c.in-None.ensures.told c.args.bank.now c.requires.env own)
+    let own : IsOwn c.args.bank.now c.args.name = record { has = c.requires.name; apart = λ other h e. c.names_apart.ensures other c.args.name h c.requires.name e } in (
+      c.requires.name,
+      kind_none (text_of c.args.bank.now c.args.name) (kind_of (env_of c.args.bank.now c.args.env.now) (text_of c.args.bank.now c.args.name))
+          (c.in-None.ensures.told c.args.bank.now c.requires.env own),
+    )

@@ -32,4 +32,4 @@ returns-in-Eliminator-clause-known c =
 pub returns-in-None-clause-known : goal.returns-in-None-clause-known
 returns-in-None-clause-known c =
     let own : IsOwn c.args.bank.now c.args.name = record { has = c.requires.name; apart = λ other h e. c.names_apart.ensures other c.args.name h c.requires.name e } in
-    none_known (env_of c.args.bank.now c.args.env.now) (text_of c.args.bank.now c.args.name) (lookup (env_of c.args.bank.now c.args.env.now) (text_of c.args.bank.now c.args.name)) (c.in-None.ensures.told c.args.bank.now c.requires.env own)
+    (c.requires.name, none_known (env_of c.args.bank.now c.args.env.now) (text_of c.args.bank.now c.args.name) (lookup (env_of c.args.bank.now c.args.env.now) (text_of c.args.bank.now c.args.name)) (c.in-None.ensures.told c.args.bank.now c.requires.env own))
