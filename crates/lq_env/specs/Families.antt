@@ -79,7 +79,6 @@ pub record IsWritten (f : TreeFamily) : Type 0 where
   pub parameters : IsBehind [] f.parameters
   pub indices : IsBehind (names_behind [] f.parameters) f.indices
   pub constructors : AllByRecursion (λ c. StandsUnder (names_behind [] f.parameters) c.1) f.constructors
-  pub sort : IsSort f.sort
   pub few_parameters : length f.parameters < 4294967296
   pub few_indices : length f.indices < 4294967296
   pub few_constructors : length f.constructors < 4294967296

@@ -161,7 +161,6 @@ tree_written f h e k =
       parameters = w.first;
       indices = w.second;
       constructors = kinds_written f.parameters (names_behind [] f.parameters) f.constructors w.among h.constructors k;
-      sort = h.sort;
       few_parameters = h.few_parameters;
       few_indices = h.few_indices;
       few_constructors = h.few_constructors;

@@ -13,7 +13,7 @@ use Rattle.lq_calculus.specs.Checking.{Kernel, sort_of, domain_sorts, not_big, s
 use Rattle.lq_env.specs.declared.family.Family.{Family}
 use Rattle.lq_env.specs.declared.family.EnvFault.{EnvFault}
 use Rattle.lq_env.specs.declared.environment.Declared.{Declared}
-use Rattle.lq_env.specs.Families.{HasFamily, IsSort, family_of, names_behind}
+use Rattle.lq_env.specs.Families.{HasFamily, family_of, names_behind}
 use Rattle.lq_env.specs.Environments.{Adds}
 use Rattle.lq_terms.specs.declared.nodes.NameId.{NameId}
 use Rattle.lq_kernel.specs.declared.faults.KernelFault.{KernelFault}
@@ -39,7 +39,6 @@ pub record IsOfferedTree (f : TreeFamily) : Type 0 where
   pub parameters : IsOfferedBehind [] f.parameters
   pub indices : IsOfferedBehind (names_behind [] f.parameters) f.indices
   pub constructors : AllByRecursion (λ c. Within 0 c.1) f.constructors
-  pub sort : IsSort f.sort
   pub few_parameters : length f.parameters < 4294967296
   pub few_indices : length f.indices < 4294967296
   pub few_constructors : length f.constructors < 4294967296
