@@ -60,3 +60,22 @@ few_pushed bank n ts us t e h k = along (λ z. EachWithin n (trees_by (tree_of b
     push : (ts : List TermId) → EachWithin n (trees_by (tree_of bank) ts) → EachWithin n (trees_by (tree_of bank) (ts ++ t ∷ []))
     push [] h = (k, tt)
     push (u ∷ us) h = (h.0, push us h.1)
+
+-- entries of which each has small numbers
+pub stack_pushed : (bank : Terms) (ts us : List TermId) (t : TermId) → us ≡ ts ++ t ∷ [] → HasStack bank ts → IsLow bank t → HasStack bank us
+stack_pushed bank ts us t e h k = along (HasStack bank) (sym e) (push ts h)
+  where
+    push : (ts : List TermId) → HasStack bank ts → HasStack bank (ts ++ t ∷ [])
+    push [] h = (k, tt)
+    push (u ∷ us) h = (h.0, push us h.1)
+
+pub stack_low : (bank : Terms) (n : ℕ) (ts : List TermId) → HasStack bank ts → IsLowNode bank (Node.Evar n ts)
+stack_low bank n ts h = record { has = has ts h; within = within ts h }
+  where
+    has : (ts : List TermId) → HasStack bank ts → AllByRecursion (HasTerm bank) ts
+    has [] h = tt
+    has (t ∷ ts) h = (h.0.has, has ts h.1)
+
+    within : (ts : List TermId) → HasStack bank ts → EachWithin low_bound (trees_by (tree_of bank) ts)
+    within [] h = tt
+    within (t ∷ ts) h = (h.0.within, within ts h.1)

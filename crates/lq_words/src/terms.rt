@@ -102,6 +102,41 @@ fn waiting(
     Ok(node)
 }
 
+/// One more entry, the last term.
+#[tactic(auto, using(crate::proofs::Lows::lows))]
+fn enter(
+    bank: &Bank<'_>,
+    stack: &mut Vec<TermId>,
+    entries: &mut Instance,
+) -> Result<(), RowFault>
+    requires stack { HasStack bank.now stack.old.items }
+    requires entries { HasStack bank.now entries.old }
+    ensures stack { HasStack bank.now stack.new.items }
+    ensures entries { OnOk result (HasStack bank.now entries.new) }
+{
+    let part = pop(bank, stack)?;
+    entries.push(part)?;
+    Ok(())
+}
+
+/// A variable with so many entries, the last terms in order.
+fn entered(
+    bank: &Bank<'_>,
+    stack: &mut Vec<TermId>,
+    number: u32,
+    count: u32,
+) -> Result<Node, RowFault>
+    requires stack { HasStack bank.now stack.old.items }
+    ensures low { IfOk result (IsLowNode bank.now) }
+    ensures rest { HasStack bank.now stack.new.items }
+{
+    let mut entries = Instance::new(bank.allocator());
+    for _ in 0..count {
+        enter(bank, stack, &mut entries)?;
+    }
+    Ok(Node::Evar(number, entries))
+}
+
 /// The node of a step that is not around a term.
 fn leaf(
     bank: &Bank<'_>,
@@ -129,6 +164,7 @@ fn leaf(
         Step::Ctor(_, index) => Ok(Node::Ctor(name, index)),
         Step::Elim(_, sort) => Ok(Node::Elim(name, sort)),
         Step::Evar(number, count) => waiting(bank, stack, number, count),
+        Step::Instance(number, count) => entered(bank, stack, number, count),
         _ => Err(RowFault::Malformed),
     }
 }

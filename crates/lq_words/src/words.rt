@@ -43,6 +43,8 @@ pub enum Step<'a> {
     Elim(&'a str, Sort),
     /// A variable that waits for a value, with so many entries, each of them the part.
     Evar(u32, u32),
+    /// A variable that waits for a value, with so many entries, the parts in order.
+    Instance(u32, u32),
     /// So many nodes around the part that comes last.
     Around(Shape, u32),
     /// No such word.
@@ -86,8 +88,19 @@ fn shaped<'a>(word: &str) -> Option<Step<'a>> {
     None
 }
 
+/// A variable that waits for a value with entries of its own, from its number and how many entries it has.
+fn instance<'a>(number: &str, count: &str) -> Option<Step<'a>> {
+    match (number.parse::<u32>(), count.parse::<u32>()) {
+        (Ok(number), Ok(count)) => Some(Step::Instance(number, count)),
+        _ => None,
+    }
+}
+
 /// A variable that waits for a value, from what follows its mark.
 fn waiting<'a>(text: &str) -> Option<Step<'a>> {
+    if let Some((number, count)) = text.split_once('/') {
+        return instance(number, count);
+    }
     let (number, count) = match text.split_once('*') {
         Some((number, count)) => (number, count),
         None => (text, "0"),
@@ -130,8 +143,8 @@ fn plain<'a>(word: &'a str) -> Option<Step<'a>> {
 
 /// What a word stands for: `Prop` and `Type.0` sorts, `0` a bound variable, `'a` a hypothesis, `=a` a constant, `a` a
 /// family, `a:0` its first constructor, `a!Prop` its eliminator into `Prop`;
-/// `?0` a variable that waits for a value, `?0*9` one with nine entries, each of them the part. Around the last part
-/// stand: `->` a product of the first part over it, `fun` an abstraction, `let` a local definition of a value and its
+/// `?0` a variable that waits for a value, `?0*9` one with nine entries, each of them the part, `?0/9` one with nine
+/// entries, the parts in order. Around the last part stand: `->` a product of the first part over it, `fun` an abstraction, `let` a local definition of a value and its
 /// type, `@` the first part applied to it; and nine of each: `->9`, `fun^9`, `let^9`, `@^9`. `@*9` applies it to the
 /// first part nine times, `<-9` makes it nine times the domain over the first part, `2^9` nine times a product over
 /// itself, `2@9` applies it nine times to itself.
