@@ -104,11 +104,7 @@ fn waiting(
 
 /// One more entry, the last term.
 #[tactic(auto, using(crate::proofs::Lows::lows))]
-fn enter(
-    bank: &Bank<'_>,
-    stack: &mut Vec<TermId>,
-    entries: &mut Instance,
-) -> Result<(), RowFault>
+fn enter(bank: &Bank<'_>, stack: &mut Vec<TermId>, entries: &mut Instance) -> Result<(), RowFault>
     requires stack { HasStack bank.now stack.old.items }
     requires entries { HasStack bank.now entries.old }
     ensures stack { HasStack bank.now stack.new.items }
