@@ -1,12 +1,5 @@
-pub mod TypingLaws
 pub mod ArgumentLaws
 pub mod CallLaws
-pub mod KeptLaws
-pub mod StandingLaws
-pub mod EndLaws
-pub mod NodeLaws
-pub mod FrameLaws
-pub mod KindLaws
 pub mod PlainTerms
 pub mod PlainFamilies
 pub mod PlainSubjects

@@ -1,5 +1,1 @@
-pub mod Typing
 pub mod Arguments
-pub mod Kept
-pub mod Standing
-pub mod Frames

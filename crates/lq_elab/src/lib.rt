@@ -1,4 +1,2 @@
-//! Types of terms over a store, and elaboration.
+//! Elaboration.
 #![tactic(auto)]
-
-mod waiting;

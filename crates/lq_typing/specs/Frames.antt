@@ -8,11 +8,11 @@ use Rattle.lq_terms.specs.Contexts.{HasContext, context_of}
 use Rattle.lq_calculus.specs.Declarations.{Env as Environment}
 use Rattle.lq_calculus.specs.Checking.{Kernel}
 use Rattle.lq_evars.specs.Places.{Places, store_of}
-use Rattle.lq_elab.specs.declared.waiting.Frame.{Frame}
-use Rattle.lq_elab.specs.declared.waiting.Turn.{Turn}
-use Rattle.lq_elab.specs.Typing.{Part, product_domain, product_rest, function_domain, function_rest, definition_kind, definition_value, definition_rest, applied_function, applied_argument}
-use Rattle.lq_elab.specs.Kept.{kept_asked, kept_typed}
-use Rattle.lq_elab.specs.Standing.{Asked, Typed}
+use Rattle.lq_typing.specs.declared.waiting.Frame.{Frame}
+use Rattle.lq_typing.specs.declared.waiting.Turn.{Turn}
+use Rattle.lq_typing.specs.Typing.{Part, product_domain, product_rest, function_domain, function_rest, definition_kind, definition_value, definition_rest, applied_function, applied_argument}
+use Rattle.lq_typing.specs.Kept.{kept_asked, kept_typed}
+use Rattle.lq_typing.specs.Standing.{Asked, Typed}
 
 -- what a frame stands for
 abbrev pub part_of : Terms → Frame → Part

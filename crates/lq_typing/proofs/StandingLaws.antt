@@ -15,9 +15,9 @@ use Rattle.lq_solving.proofs.Later.{reads_prod, reads_lam, reads_let, reads_app}
 use Rattle.lq_solving.proofs.FreshLaws.{fresh_new}
 use Rattle.lq_solving.proofs.StandsLaws.{open_stands}
 use Rattle.lq_solving.proofs.ElabKept.{context_under}
-use Rattle.lq_elab.specs.Typing.{Part, product_domain, product_rest, function_domain, function_rest, definition_kind, definition_value, definition_rest, applied_function, applied_argument, shorter, outside}
-use Rattle.lq_elab.specs.Standing.{RestStands, EndsIn, PartStands, PartsStand, Asked, Typed}
-use Rattle.lq_elab.proofs.TypingLaws.{shorter_more}
+use Rattle.lq_typing.specs.Typing.{Part, product_domain, product_rest, function_domain, function_rest, definition_kind, definition_value, definition_rest, applied_function, applied_argument, shorter, outside}
+use Rattle.lq_typing.specs.Standing.{RestStands, EndsIn, PartStands, PartsStand, Asked, Typed}
+use Rattle.lq_typing.proofs.TypingLaws.{shorter_more}
 
 -- ---- parts of terms
 

@@ -12,7 +12,7 @@ use Rattle.lq_calculus.specs.Checking.{KernelFault, Kernel, as_sort, as_product,
 use Rattle.lq_calculus.proofs.Settled.{form_agree, matching_agree}
 use Rattle.lq_inference.specs.Inference.{Open, matching_by, infer_by}
 use Rattle.lq_solving.proofs.ElabSettled.{by_agree, infer_by_agree}
-use Rattle.lq_elab.specs.Typing.{Part, product_domain, product_rest, function_domain, function_rest, definition_kind, definition_value, definition_rest, applied_function, applied_argument, shorter, outside, resumed, go_on, typed_work, asked_work, Leads}
+use Rattle.lq_typing.specs.Typing.{Part, product_domain, product_rest, function_domain, function_rest, definition_kind, definition_value, definition_rest, applied_function, applied_argument, shorter, outside, resumed, go_on, typed_work, asked_work, Leads}
 
 -- work that is the same for each bound
 pub comes_same : {A : Type 0} (f g : ℕ → Kernel A) (b : ℕ) (r : Outcome KernelFault A) → ((n : ℕ) → f n ≡ g n) → ComesTo g b r → ComesTo f b r

@@ -24,10 +24,10 @@ use Rattle.lq_solving.proofs.Closing.{reads_close}
 use Rattle.lq_solving.proofs.StandsLaws.{StandsUnder, prod_stands, close_stands, subst_stands}
 use Rattle.lq_solving.proofs.InferKept.{infer_good}
 use Rattle.lq_solving.proofs.ElabKept.{read_context_good}
-use Rattle.lq_elab.specs.Typing.{Part, shorter, go_on, Leads}
-use Rattle.lq_elab.specs.Kept.{kept_asked, kept_typed}
-use Rattle.lq_elab.specs.Standing.{RestStands, EndsIn, Asked, Typed}
-use Rattle.lq_elab.proofs.KeptLaws.{subst_read, names_read}
+use Rattle.lq_typing.specs.Typing.{Part, shorter, go_on, Leads}
+use Rattle.lq_typing.specs.Kept.{kept_asked, kept_typed}
+use Rattle.lq_typing.specs.Standing.{RestStands, EndsIn, Asked, Typed}
+use Rattle.lq_typing.proofs.KeptLaws.{subst_read, names_read}
 
 module _ (s : Store) (i : IsStore s) (g : Context) where
   -- what is read stands, and reads as itself

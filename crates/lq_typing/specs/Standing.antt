@@ -7,7 +7,7 @@ use Rattle.lq_trees.specs.Index.{Within}
 use Rattle.lq_trees.specs.Hypotheses.{HoldsOnly}
 use Rattle.lq_solving.specs.Stores.{Store, names_in, read}
 use Rattle.lq_solving.specs.Kept.{IsOver, IsContext, StandsIn}
-use Rattle.lq_elab.specs.Typing.{Part, product_domain, product_rest, function_domain, function_rest, definition_kind, definition_value, definition_rest, applied_function, applied_argument, shorter, outside}
+use Rattle.lq_typing.specs.Typing.{Part, product_domain, product_rest, function_domain, function_rest, definition_kind, definition_value, definition_rest, applied_function, applied_argument, shorter, outside}
 
 -- a term below one binder that stands in a context
 pub record RestStands (s : Store) (g : Context) (t : Tree) : Type 0 where

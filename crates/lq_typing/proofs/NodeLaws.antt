@@ -16,7 +16,7 @@ use Rattle.lq_solving.specs.Kept.{IsOver, EachIsOver, IsStore}
 use Rattle.lq_solving.specs.Inference.{by_store_types, variable_kind}
 use Rattle.lq_solving.proofs.ReadLaws.{filled_each, open_stays}
 use Rattle.lq_solving.proofs.Later.{reads_var}
-use Rattle.lq_elab.proofs.EndLaws.{variable_reads}
+use Rattle.lq_typing.proofs.EndLaws.{variable_reads}
 
 -- ---- the same everywhere
 

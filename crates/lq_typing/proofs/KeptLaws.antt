@@ -16,9 +16,9 @@ use Rattle.lq_solving.specs.Stores.{Store, names_in, read, read_hypothesis, read
 use Rattle.lq_solving.specs.Kept.{IsStore}
 use Rattle.lq_solving.specs.Inference.{by_store_types}
 use Rattle.lq_solving.proofs.Later.{reads_prod, reads_lam, reads_let, reads_app, reads_fill, reads_opened}
-use Rattle.lq_elab.specs.Typing.{Part, product_domain, product_rest, function_domain, function_rest, definition_kind, definition_value, definition_rest, applied_function, applied_argument, shorter, outside, resumed, typed_work, asked_work, Leads}
-use Rattle.lq_elab.specs.Kept.{read_part, kept_asked, kept_typed}
-use Rattle.lq_elab.proofs.TypingLaws.{ends_done, asks_product, asks_function, asks_definition, asks_application, product_on, function_on, definition_on, value_on, function_applied}
+use Rattle.lq_typing.specs.Typing.{Part, product_domain, product_rest, function_domain, function_rest, definition_kind, definition_value, definition_rest, applied_function, applied_argument, shorter, outside, resumed, typed_work, asked_work, Leads}
+use Rattle.lq_typing.specs.Kept.{read_part, kept_asked, kept_typed}
+use Rattle.lq_typing.proofs.TypingLaws.{ends_done, asks_product, asks_function, asks_definition, asks_application, product_on, function_on, definition_on, value_on, function_applied}
 
 -- ---- contexts and binders as read
 

@@ -13,12 +13,12 @@ use Rattle.lq_solving.specs.Stores.{Store}
 use Rattle.lq_solving.proofs.Motions.{reverse-map}
 use Rattle.lq_evars.specs.Places.{Places, store_of, HasStore}
 use Rattle.lq_evars.proofs.Growing.{context_grown, store_of-grown}
-use Rattle.lq_elab.specs.declared.waiting.Frame.{Frame}
-use Rattle.lq_elab.specs.declared.waiting.Turn.{Turn}
-use Rattle.lq_elab.specs.Typing.{Part}
-use Rattle.lq_elab.specs.Kept.{kept_asked, kept_typed}
-use Rattle.lq_elab.specs.Standing.{Asked, Typed}
-use Rattle.lq_elab.specs.Frames.{part_of, HasFrame, parts_of, turn_work, TurnStands, IsTurn}
+use Rattle.lq_typing.specs.declared.waiting.Frame.{Frame}
+use Rattle.lq_typing.specs.declared.waiting.Turn.{Turn}
+use Rattle.lq_typing.specs.Typing.{Part}
+use Rattle.lq_typing.specs.Kept.{kept_asked, kept_typed}
+use Rattle.lq_typing.specs.Standing.{Asked, Typed}
+use Rattle.lq_typing.specs.Frames.{part_of, HasFrame, parts_of, turn_work, TurnStands, IsTurn}
 
 -- one frame more is the nearest
 pub parts_push : (bank : Terms) (fs : List Frame) (f : Frame) → parts_of bank (fs ++ f ∷ []) ≡ part_of bank f ∷ parts_of bank fs

@@ -5,7 +5,7 @@ use Rattle.lq_calculus.specs.Declarations.{Env}
 use Rattle.lq_calculus.specs.Checking.{Kernel}
 use Rattle.lq_solving.specs.Stores.{Store, read, read_context}
 use Rattle.lq_solving.specs.Inference.{by_store_types}
-use Rattle.lq_elab.specs.Typing.{Part, product_domain, product_rest, function_domain, function_rest, definition_kind, definition_value, definition_rest, applied_function, applied_argument, typed_work, asked_work}
+use Rattle.lq_typing.specs.Typing.{Part, product_domain, product_rest, function_domain, function_rest, definition_kind, definition_value, definition_rest, applied_function, applied_argument, typed_work, asked_work}
 
 -- what waits, as read; the parts of a weak head form are read already
 unfoldable pub read_part : Store → Part → Part

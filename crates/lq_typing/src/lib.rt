@@ -1,0 +1,7 @@
+//! Types of terms over a store.
+#![tactic(auto)]
+
+mod faults;
+mod waiting;
+
+pub use faults::ElabFault;
