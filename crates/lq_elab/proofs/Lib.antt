@@ -1,4 +1,7 @@
 pub mod ArgumentLaws
+pub mod GoingLaws
+pub mod NamingLaws
+pub mod PuttingLaws
 pub mod CallLaws
 pub mod PlainTerms
 pub mod PlainFamilies
