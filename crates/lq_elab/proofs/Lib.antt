@@ -1,6 +1,7 @@
 pub mod ArgumentLaws
 pub mod GoingLaws
 pub mod NamingLaws
+pub mod ViewLaws
 pub mod PuttingLaws
 pub mod CallLaws
 pub mod PlainTerms

@@ -1,3 +1,4 @@
 pub mod Arguments
 pub mod Waiting
 pub mod Naming
+pub mod Views

@@ -1,2 +1,4 @@
 //! Elaboration.
-#![tactic(auto)]
+#![tactic(auto, using(lq_ast::proofs::PlainLaws::plain_laws))]
+
+mod views;
