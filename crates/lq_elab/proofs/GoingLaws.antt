@@ -11,10 +11,13 @@ use Rattle.lq_trees.proofs.Outcomes.{comes_gives, comes_then, comes_failed, come
 use Rattle.lq_ast.specs.Syntax.{Surface, Forall, Fun, LetIn, Arrow, Cast, Written, Missing, applied}
 use Rattle.lq_solving.specs.Stores.{Store}
 use Rattle.lq_solving.specs.ElabFaults.{ElabFault, Elab, cannot_infer}
-use Rattle.lq_solving.specs.Elaboration.{Site, Found, found_sort, form_of, product_form, bind, against, wanted_product, domain_agrees, rest_wanted, function_found, elaborate, domain_found}
+use Rattle.lq_solving.specs.Elaboration.{Site, Found, found_sort, form_of, product_form, bind, against, wanted_product, domain_agrees, rest_wanted}
+use Rattle.lq_solving.specs.Elaboration.{function_found, elaborate, domain_found}
 use Rattle.lq_solving.proofs.ElabSettled.{at}
 use Rattle.lq_elab.specs.Arguments.{ticks, with_argument, with_arguments}
-use Rattle.lq_elab.specs.Waiting.{Spot, below, below_let, Part, product_domain, product_rest, function_domain, function_rest, definition_kind, definition_value, definition_rest, applied_function, applied_argument, cast_kind, cast_term, Waiting, waiting, kind_or, left_wanted, product_of, function_of, application_of, with_more, resumed, go_on, found_work, asked_work, Leads}
+use Rattle.lq_elab.specs.Waiting.{Spot, below, below_let, Part, product_domain, product_rest, function_domain, function_rest, definition_kind, definition_value}
+use Rattle.lq_elab.specs.Waiting.{definition_rest, applied_function, applied_argument, cast_kind, cast_term, Waiting, waiting, kind_or, left_wanted, product_of}
+use Rattle.lq_elab.specs.Waiting.{function_of, application_of, with_more, resumed, go_on, found_work, asked_work, Leads}
 use Rattle.lq_elab.proofs.ArgumentLaws.{comes_ticks, lacks_ticks, several_arguments}
 
 -- one work, and then what is the same for each answer

@@ -3,6 +3,9 @@ pub mod GoingLaws
 pub mod NamingLaws
 pub mod ViewLaws
 pub mod PuttingLaws
+pub mod ShutSteps
+pub mod ScopeLaws
+pub mod FrameLaws
 pub mod CallLaws
 pub mod PlainTerms
 pub mod PlainFamilies

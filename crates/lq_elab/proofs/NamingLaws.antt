@@ -9,12 +9,14 @@ use Rattle.lq_calculus.specs.Contraction.{hypothesis}
 use Rattle.lq_calculus.specs.Declarations.{lookup}
 use Rattle.lq_solving.specs.Stores.{Store, names_in}
 use Rattle.lq_solving.specs.ElabFaults.{Elab, unknown}
-use Rattle.lq_solving.specs.Elaboration.{Given, given_term, given_name, given_other, Site, Found, entry_found, hypothesis_or, value_found, outer_found, name_found, bind}
+use Rattle.lq_solving.specs.Elaboration.{Given, given_term, given_name, given_other, Site, Found, entry_found, hypothesis_or, value_found, outer_found}
+use Rattle.lq_solving.specs.Elaboration.{name_found, bind}
 use Rattle.lq_solving.proofs.InstanceLaws.{is_same, same_flip}
 use Rattle.lq_solving.proofs.InferKept.{names_more}
 use Rattle.lq_solving.proofs.StandsLaws.{listed_more, listed_end}
 use Rattle.lq_elab.specs.Waiting.{Spot}
-use Rattle.lq_elab.specs.Naming.{variable, meaning_of_name, meaning_of_value, meaning_if, value_or, outer_meaning, bound_or, meaning, meant, with_meaning, AreBound, under_binder}
+use Rattle.lq_elab.specs.Naming.{variable, meaning_of_name, meaning_of_value, meaning_if, value_or, outer_meaning, bound_or, meaning, meant, with_meaning}
+use Rattle.lq_elab.specs.Naming.{AreBound, under_binder}
 
 -- a name is found as what it stands for
 pub name_meant : (e : Site) (l : Spot) (s : Store) (x : Name) → name_found e l.binders l.context s x ≡ meant e s x (meaning e l x)

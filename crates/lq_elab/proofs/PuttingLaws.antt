@@ -1,5 +1,6 @@
 -- A hypothesis is closed, and a value takes a bound variable's place, by trees that are put in for names: this has no limits.
-use Rattle.std.proofs.Common.{◌≡◌, ◌≤◌, ◌<◌, ◌+◌, ◌-◌, ℕ, suc, refl, sym, ◌∙◌, ap, ap₂, arith, Bool, true, false, if◌then◌else◌, List, [], ◌∷◌, Some, None, inl, inr, le_refl}
+use Rattle.std.proofs.Common.{◌≡◌, ◌≤◌, ◌<◌, ◌+◌, ◌-◌, ℕ, suc, refl, sym, ◌∙◌, ap, ap₂, arith, Bool, true, false, if◌then◌else◌, List, [], ◌∷◌, Some, None, inl}
+use Rattle.std.proofs.Common.{inr, le_refl}
 use Rattle.std.proofs.Common.{subst as along}
 use Rattle.std.proofs.lemmas.Bool.{cases_lt, le-ltb, lt-ltb}
 use Rattle.std.specs.Prelude.{nat_lt, ◌==◌}
