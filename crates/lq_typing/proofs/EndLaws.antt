@@ -40,7 +40,7 @@ module _ (s : Store) (i : IsStore s) (g : Context) where
 
   -- a function's type
   module _ (y : Name) (T : Tree) (last : EndsIn g y) (k : StandsIn s g T) (e : read s T ≡ T) where
-    closed_stands : StandsUnder s (names_in (shorter g)) 1 (close y T)
+    pub closed_stands : StandsUnder s (names_in (shorter g)) 1 (close y T)
     closed_stands = close_stands s i (names_in (shorter g)) y T (along (λ xs. Stands s xs T) last k)
 
     pub closed_reads : read s (close y T) ≡ close y T

@@ -1,7 +1,6 @@
 -- What waits stands for the same in a bank that has grown.
-use Rattle.std.proofs.Common.{◌≡◌, ◌∙◌, refl, sym, ap, ap₂, arith, List, [], ◌∷◌, ◌++◌, map, reverse}
+use Rattle.std.proofs.Common.{◌≡◌, refl, sym, ap₂, arith, List, [], ◌∷◌}
 use Rattle.std.proofs.Common.{subst as along}
-use Rattle.std.proofs.lemmas.List.{reverse-append}
 use Rattle.std.specs.List.{AllByRecursion}
 use Rattle.lq_trees.specs.Tree.{Tree, Context}
 use Rattle.lq_calculus.specs.Declarations.{Env as Environment}
@@ -10,7 +9,6 @@ use Rattle.lq_terms.specs.declared.nodes.TermId.{TermId}
 use Rattle.lq_terms.specs.Terms.{Terms, HasTerm, Grows, tree_of}
 use Rattle.lq_terms.specs.Contexts.{HasContext, context_of}
 use Rattle.lq_solving.specs.Stores.{Store}
-use Rattle.lq_solving.proofs.Motions.{reverse-map}
 use Rattle.lq_evars.specs.Places.{Places, store_of, HasStore}
 use Rattle.lq_evars.proofs.Growing.{context_grown, store_of-grown}
 use Rattle.lq_typing.specs.declared.waiting.Frame.{Frame}
@@ -19,10 +17,6 @@ use Rattle.lq_typing.specs.Typing.{Part}
 use Rattle.lq_typing.specs.Kept.{kept_asked, kept_typed}
 use Rattle.lq_typing.specs.Standing.{Asked, Typed}
 use Rattle.lq_typing.specs.Frames.{part_of, HasFrame, parts_of, turn_work, TurnStands, IsTurn}
-
--- one frame more is the nearest
-pub parts_push : (bank : Terms) (fs : List Frame) (f : Frame) → parts_of bank (fs ++ f ∷ []) ≡ part_of bank f ∷ parts_of bank fs
-parts_push bank fs f = ap (map (part_of bank)) (reverse-append fs (f ∷ []))
 
 module _ (old new : Terms) (g : Grows old new) where
   pub frame_grown : (f : Frame) → HasFrame old f → (part_of new f ≡ part_of old f) × HasFrame new f
@@ -42,12 +36,9 @@ module _ (old new : Terms) (g : Grows old new) where
   frames_there [] h = tt
   frames_there (f ∷ fs) h = ((frame_grown f h.0).1, frames_there fs h.1)
 
-  map_grown : (fs : List Frame) → AllByRecursion (HasFrame old) fs → map (part_of new) fs ≡ map (part_of old) fs
-  map_grown [] h = refl
-  map_grown (f ∷ fs) h = ap₂ (λ p ps. p ∷ ps) (frame_grown f h.0).0 (map_grown fs h.1)
-
   pub parts_grown : (fs : List Frame) → AllByRecursion (HasFrame old) fs → parts_of new fs ≡ parts_of old fs
-  parts_grown fs h = sym (reverse-map (part_of new) fs) ∙ ap reverse (map_grown fs h) ∙ reverse-map (part_of old) fs
+  parts_grown [] h = refl
+  parts_grown (f ∷ fs) h = ap₂ (λ p ps. p ∷ ps) (frame_grown f h.0).0 (parts_grown fs h.1)
 
   module _ (s : Places) (hs : List Hypothesis) (fs : List Frame) (store : HasStore old s) (context : HasContext old hs) (frames : AllByRecursion (HasFrame old) fs) where
     -- what is said of a store, of what waits, of a context and of a tree is said in both banks

@@ -1,3 +1,5 @@
+pub mod ReadingLaws
+pub mod FittedLaws
 pub mod TypingLaws
 pub mod KeptLaws
 pub mod StandingLaws
@@ -5,3 +7,13 @@ pub mod EndLaws
 pub mod NodeLaws
 pub mod FrameLaws
 pub mod KindLaws
+pub mod TurnLaws
+pub mod FormLaws
+pub mod ArmLaws
+pub mod SingleLaws
+pub mod AskLaws
+pub mod RunLaws
+pub mod PuttingLaws
+pub mod RefusalLaws
+pub mod MeasureLaws
+pub mod StopLaws

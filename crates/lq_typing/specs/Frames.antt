@@ -1,8 +1,9 @@
 -- What waits for the types of parts, by places of a bank, and what it stands for.
-use Rattle.std.specs.Prelude.{ℕ, List, map, reverse}
+use Rattle.std.specs.Prelude.{ℕ, List, map, Option, Some, None}
 use Rattle.std.specs.List.{AllByRecursion}
 use Rattle.lq_trees.specs.Tree.{Tree}
 use Rattle.lq_terms.specs.declared.nodes.Hypothesis.{Hypothesis}
+use Rattle.lq_terms.specs.declared.nodes.TermId.{TermId}
 use Rattle.lq_terms.specs.Terms.{Terms, HasName, HasTerm, text_of, tree_of}
 use Rattle.lq_terms.specs.Contexts.{HasContext, context_of}
 use Rattle.lq_calculus.specs.Declarations.{Env as Environment}
@@ -38,9 +39,9 @@ HasFrame bank (Frame.DefinitionRest y v) = HasName bank y × HasTerm bank v
 HasFrame bank (Frame.Function a) = HasTerm bank a
 HasFrame bank (Frame.Argument a D R) = HasTerm bank a × HasTerm bank D × HasTerm bank R
 
--- what a stack of frames stands for, the last being the nearest
+-- what all that waits stands for, the nearest first
 abbrev pub parts_of : Terms → List Frame → List Part
-parts_of bank fs = map (part_of bank) (reverse fs)
+parts_of bank fs = map (part_of bank) fs
 
 -- the work that is left at a turn
 abbrev pub turn_work : Terms → Places → Environment → List Hypothesis → List Frame → Turn → ℕ → Kernel Tree
@@ -57,3 +58,23 @@ pub record IsTurn (bank : Terms) (s : Places) (hs : List Hypothesis) (fs : List 
   pub context : HasContext bank hs
   pub frames : AllByRecursion (HasFrame bank) fs
   pub stands : TurnStands bank s hs fs turn
+
+-- how much of the turns it takes
+abbrev pub due : Turn → ℕ
+due (Turn.Ask t) = 0
+due (Turn.Found t) = 1
+
+-- what comes next, or what came last where nothing does
+abbrev pub next_of : Option Turn → Turn → Turn
+next_of None t = t
+next_of (Some u) t = u
+
+-- a type was found
+abbrev pub IsFound : Turn → Type 0
+IsFound (Turn.Ask t) = ⊥
+IsFound (Turn.Found t) = Unit {0}
+
+-- the term that a turn is about
+abbrev pub term_of : Turn → TermId
+term_of (Turn.Ask t) = t
+term_of (Turn.Found t) = t

@@ -3,3 +3,7 @@ pub mod Kept
 pub mod Standing
 pub mod Frames
 pub mod Refusals
+pub mod Sites
+pub mod Kinds
+pub mod Going
+pub mod Entering

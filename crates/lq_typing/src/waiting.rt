@@ -1,7 +1,11 @@
 //! What waits for the types of parts while a term's type is found.
 
-use lq_terms::{NameId, TermId};
+ghost use Rattle.std.specs.Prelude.{◌≡◌, [], ◌∷◌, OnOk, OnErr, MatchOption};
+
+use lq_terms::{NameId, NoMemory, TermId};
 use lq_trees::Sort;
+use std::alloc::Global;
+use std::marker::Model;
 
 /// What waits for the type of a part. Terms are as they are kept.
 #[derive(Clone, Copy)]
@@ -26,6 +30,17 @@ pub(crate) enum Frame {
     Argument(TermId, TermId, TermId),
 }
 
+/// What stands under a binder whose variable gets a hypothesis.
+#[derive(Clone, Copy)]
+pub(crate) enum Under {
+    /// The rest of a product, whose domain has that sort.
+    Product(Sort),
+    /// The rest of a function.
+    Function,
+    /// The rest of a local definition of that value.
+    Definition(TermId),
+}
+
 /// What comes next.
 #[derive(Clone, Copy)]
 pub(crate) enum Turn {
@@ -33,4 +48,48 @@ pub(crate) enum Turn {
     Ask(TermId),
     /// A type was found. It is as read.
     Found(TermId),
+}
+
+/// All that waits, which contracts see as a list, the nearest first.
+#[derive(Drop)]
+pub(crate) struct Waiting {
+    frames: Vec<Frame>,
+}
+
+impl Model for Waiting {
+    ghost use Rattle.std.specs.Prelude.{List, reverse};
+    ghost use Rattle.lq_typing.specs.declared.waiting.Frame.{Frame};
+
+    ghost Value = { List Frame };
+
+    ghost view = { λ w. reverse w.frames.items };
+}
+
+impl Waiting {
+    /// Nothing waits.
+    pub(crate) fn new(alloc: Global) -> Waiting
+        ensures { result ≡ [] }
+    {
+        Waiting {
+            frames: Vec::new(alloc),
+        }
+    }
+
+    /// One more, the nearest.
+    pub(crate) fn push(&mut self, frame: Frame) -> Result<(), NoMemory>
+        ensures ok { OnOk result (self.new ≡ frame ∷ self.old) }
+        ensures err { OnErr result (self.new ≡ self.old) }
+    {
+        match self.frames.push(frame) {
+            Ok(()) => Ok(()),
+            Err(_) => Err(NoMemory),
+        }
+    }
+
+    /// Takes the nearest one away and answers it, if there is one.
+    pub(crate) fn pop(&mut self) -> Option<Frame>
+        ensures { MatchOption result ((self.old ≡ []) × (self.new ≡ [])) (λ f. self.old ≡ f ∷ self.new) }
+    {
+        self.frames.pop()
+    }
 }

@@ -53,8 +53,9 @@ fn unfolded(bank: &mut Bank<'_>, store: &Store, term: TermId) -> Result<Option<T
     }
 }
 
-/// The term with values put in for its head, as long as that is a variable that has one: it reads the same.
-pub(crate) fn exposed(bank: &mut Bank<'_>, store: &Store, term: TermId) -> Result<TermId, NoMemory>
+/// The term with values put in for its head, as long as that is a variable that has one: it reads the same. It refuses for want of
+/// memory alone.
+pub fn exposed(bank: &mut Bank<'_>, store: &Store, term: TermId) -> Result<TermId, NoMemory>
     requires store { HasStore bank.old store.now }
     requires kept { IsStore (store_of bank.old store.now) }
     requires term { IsOfStore bank.old (store_of bank.old store.now) term }

@@ -32,8 +32,9 @@ pub(crate) fn given_for(
     Ok(given)
 }
 
-/// A body with these terms, which have no loose bound variables, for the hypotheses of a context. It goes as deep as the body is.
-pub(crate) fn filled(
+/// A body with these terms, which have no loose bound variables, for the hypotheses of a context. It has no limits, refuses for want of
+/// memory alone, and goes as deep as the body is.
+pub fn filled(
     bank: &mut Bank<'_>,
     context: &[Hypothesis],
     terms: &[TermId],

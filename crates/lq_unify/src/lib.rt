@@ -22,5 +22,7 @@ mod splitting;
 mod turns;
 mod unifying;
 
+pub use exposing::exposed;
 pub use faults::UnifyFault;
+pub use givens::filled;
 pub use unifying::unify;
