@@ -1,0 +1,3 @@
+pub mod RowLaws
+pub mod BinderLaws
+pub mod WayLaws
