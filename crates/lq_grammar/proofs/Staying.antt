@@ -25,7 +25,7 @@ abbrev pub Stand : ℕ → List Token → Type 0
 Stand n [] = Unit {0}
 Stand n (t ∷ ts) = (t.start ≤ t.end) × (t.end ≤ n) × Stand n ts
 
-stand_push : (n : ℕ) (ts : List Token) (t : Token) → Stand n ts → t.start ≤ t.end → t.end ≤ n → Stand n (ts ++ t ∷ [])
+pub stand_push : (n : ℕ) (ts : List Token) (t : Token) → Stand n ts → t.start ≤ t.end → t.end ≤ n → Stand n (ts ++ t ∷ [])
 stand_push n [] t s h k = (h, k, tt)
 stand_push n (u ∷ ts) t s h k = (s.0, s.1, stand_push n ts t s.2 h k)
 
@@ -55,7 +55,7 @@ opens_more : (text more : List ℕ) (ts : List Token) → Stand (length text) ts
 unfolding opens
 opens_more text more ts s = ap (λ w. is_empty ts || w || is_named_selector (text ++ more) ts || ranges_to_colon First ts) (word_more text more ts s) ∙ ap (λ w. is_empty ts || is_word_selector text ts || w || ranges_to_colon First ts) (named_more text more ts s)
 
-closes_more : (k : TokenKind) (text more : List ℕ) (ts : List Token) → Stand (length text) ts → closes k (text ++ more) ts ≡ closes k text ts
+pub closes_more : (k : TokenKind) (text more : List ℕ) (ts : List Token) → Stand (length text) ts → closes k (text ++ more) ts ≡ closes k text ts
 unfolding closes
 closes_more (kind.Symbol sign.OpenCurly) text more ts s = opens_more text more ts s
 closes_more _ text more ts s = refl

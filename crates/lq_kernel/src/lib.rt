@@ -20,4 +20,5 @@ mod variables;
 pub use declaration::Declaration;
 pub use faults::KernelFault;
 pub use kernel::{check, declare, infer, infer_with, sort_of};
+pub use lookups::{constant_type, constructor_type, eliminator_type, family_type};
 pub use variables::Variables;

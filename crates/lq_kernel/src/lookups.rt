@@ -68,8 +68,8 @@ pub(crate) fn sort_type(bank: &mut Bank<'_>, sort: Sort) -> Result<TermId, Kerne
     Ok(bank.make(Node::Sort(Sort::Level(level)))?)
 }
 
-/// The type of a constant.
-pub(crate) fn constant_type(bank: &Bank<'_>, env: &Env, name: NameId) -> Result<TermId, KernelFault>
+/// The type of a constant; `Unbound` where the name is no constant, `TooLarge` or `TooDeep` where the type passes the limits.
+pub fn constant_type(bank: &Bank<'_>, env: &Env, name: NameId) -> Result<TermId, KernelFault>
     requires name { HasName bank.now name }
     requires env { IsEnv bank.now env.now }
     ensures { (o : Open) (G : TreeContext) (b : ℕ) → Types bank.now result (inside_of o (env_of bank.now env.now) G (Tree.Const (text_of bank.now name))) b b }
@@ -98,8 +98,9 @@ fn kept_type(bank: &Bank<'_>, env: &Env, name: NameId) -> Result<TermId, KernelF
     }
 }
 
-/// The type of a family, declared or being declared.
-pub(crate) fn family_type(bank: &Bank<'_>, env: &Env, name: NameId) -> Result<TermId, KernelFault>
+/// The type of a family, declared or being declared; `Unbound` where the name is none, `TooLarge` or `TooDeep` where the type
+/// passes the limits.
+pub fn family_type(bank: &Bank<'_>, env: &Env, name: NameId) -> Result<TermId, KernelFault>
     requires name { HasName bank.now name }
     requires env { IsEnv bank.now env.now }
     ensures { (o : Open) (G : TreeContext) (b : ℕ) → Types bank.now result (inside_of o (env_of bank.now env.now) G (Tree.Ind (text_of bank.now name))) b b }
@@ -114,8 +115,9 @@ pub(crate) fn family_type(bank: &Bank<'_>, env: &Env, name: NameId) -> Result<Te
     }
 }
 
-/// The type of a family's eliminator into a sort.
-pub(crate) fn eliminator_type(
+/// The type of a family's eliminator into a sort; `Unbound` where the name is no family, `Env` where it has none into that sort,
+/// `TooLarge` or `TooDeep` where the type passes the limits. See the Rocq reference manual, "Inductive types".
+pub fn eliminator_type(
     bank: &Bank<'_>,
     env: &Env,
     name: NameId,
@@ -175,8 +177,9 @@ fn permitted_type(
     }
 }
 
-/// The type of a family's constructor, counted from 0.
-pub(crate) fn constructor_type(
+/// The type of a family's constructor, counted from 0; `Unbound` where there is none, `TooLarge` or `TooDeep` where the type
+/// passes the limits.
+pub fn constructor_type(
     bank: &mut Bank<'_>,
     env: &Env,
     name: NameId,

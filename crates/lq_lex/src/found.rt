@@ -17,7 +17,7 @@ use lq_grammar::{Class, LexFault, Token, TokenKind};
 
 /// What stands at a place of a text.
 #[derive(Clone, Copy)]
-pub(crate) enum Found {
+pub enum Found {
     /// Nothing: the text ends.
     Nothing,
     /// Nothing up to the bound, or a comment that goes on behind it.
@@ -58,8 +58,8 @@ fn found_at(view: &View<'_>, class: Class, c: char, start: usize, at: usize) -> 
     }
 }
 
-/// What stands at a place, at the start of a sentence or inside it.
-pub(crate) fn scan(view: &View<'_>, is_start: bool, at: usize) -> Found
+/// What stands at a place of a text that is looked at up to a bound, at the start of a sentence or inside it.
+pub fn scan(view: &View<'_>, is_start: bool, at: usize) -> Found
     requires { at ≤ length view.now.text.now }
     ensures { Tells view.now result (found is_start (from view.now at)) }
 {

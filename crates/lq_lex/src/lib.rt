@@ -15,6 +15,8 @@ mod symbols;
 mod view;
 
 pub use cutting::cut;
+pub use found::{Found, scan};
 pub use lq_grammar::{LexFault, Symbol, Token, TokenKind};
 pub use piece::{Piece, Tokens};
 pub use selectors::closes;
+pub use view::View;

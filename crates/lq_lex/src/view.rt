@@ -47,11 +47,11 @@ impl Front {
 
 /// A text that is looked at up to a bound.
 #[derive(Clone, Copy)]
-pub(crate) struct View<'t> {
+pub struct View<'t> {
     /// The text.
-    pub(crate) text: &'t [u8],
+    pub text: &'t [u8],
     /// The place of the bound.
-    pub(crate) limit: usize,
+    pub limit: usize,
 }
 
 /// The text from a place on.

@@ -1,23 +1,21 @@
 -- A text that goes on behind a script: it gives the lines of the script's settled sentences, and then what the rest gives from the session that they reached.
 use Rattle.std.proofs.Common.{◌≡◌, ◌∙◌, refl, sym, ap, ap₂, subst, arith, ℕ, zero, suc, ◌+◌, ◌-◌, ◌≤◌, Bool, true, false, List, [], ◌∷◌, ◌++◌, length, length-append, length-drop, take, drop, append-nil, Option, Some, None, Result, Ok, Err, inl, inr, append_assoc}
-use Rattle.std.specs.Prelude.{not, ◌&&◌, ◌||◌, nat_lt, nat_le, bytes_eq, codes, map}
+use Rattle.std.specs.Prelude.{not, ◌&&◌, ◌||◌, nat_lt, nat_le, map}
 use Rattle.std.proofs.lemmas.Bool.{le-ltb}
 use Rattle.std.proofs.lemmas.List.{drop-append-le, take-append-le}
 use Rattle.lq_grammar.specs.declared.fault.LexFault.{LexFault}
-use Rattle.lq_grammar.specs.declared.selector.RangePart.TheVariants.{First}
-use Rattle.lq_grammar.specs.declared.token.Symbol.TheVariants as sign
 use Rattle.lq_grammar.specs.declared.token.Token.{Token}
 use Rattle.lq_grammar.specs.declared.token.TokenKind.{TokenKind}
 use Rattle.lq_grammar.specs.declared.token.TokenKind.TheVariants as kind
 use Rattle.lq_grammar.specs.Cells.{Cells, cells, place, window}
 use Rattle.lq_grammar.specs.Tokens.{Found, nothing, bound, space, word, crossing, flaw, found}
-use Rattle.lq_grammar.specs.Selectors.{spelled, is_empty, is_colon, is_bang, is_word, is_reserved, is_open_square, is_close_square, is_word_selector, is_named_selector, ranges_to_colon, opens, closes}
+use Rattle.lq_grammar.specs.Selectors.{spelled, closes}
 use Rattle.lq_grammar.specs.Spans.{AreSpans}
 use Rattle.lq_grammar.specs.Cutting.{Next, sentence as cut_sentence, finished, longest, gathered, is_space, begun, next}
 use Rattle.lq_grammar.specs.Settled.{has_character, is_settled, settled_behind, begins_settled, settles}
 use Rattle.lq_grammar.proofs.Turns.{gathered-suc, after_found, begun-suc, begun_by}
 use Rattle.lq_grammar.proofs.SpanLaws.{Spreads, next_spreads}
-use Rattle.lq_grammar.proofs.Staying.{Stand, settled_by, is_settled-suc, begins_settled-suc, begins_by, next_stays}
+use Rattle.lq_grammar.proofs.Staying.{Stand, stand_push, closes_more, settled_by, is_settled-suc, begins_settled-suc, begins_by, next_stays}
 use Rattle.lq_sentences.specs.declared.fault.SyntaxFault.{SyntaxFault}
 use Rattle.lq_sentences.specs.Words.{words, word_of}
 use Rattle.lq_sentences.specs.Reading.{is_closed_behind, is_too_long, start_of, fault_of, with_faults, Whole, sentence as sentence_of, read_sentence}
@@ -31,10 +29,6 @@ use Rattle.lq_sessions.specs.Ahead.{Reached, reached, with_lines, ran_ahead, rea
 use Rattle.lq_sessions.specs.Output.{faulted, Run, behind, faulted_by, ran, read_and_ran, piece_ran, turn, run_from, script_run, most_bytes, run}
 
 -- ---- tokens of a text, in a longer one
-
-stand_push : (n : ℕ) (ts : List Token) (t : Token) → Stand n ts → t.start ≤ t.end → t.end ≤ n → Stand n (ts ++ t ∷ [])
-stand_push n [] t s h k = (h, k, tt)
-stand_push n (u ∷ ts) t s h k = (s.0, s.1, stand_push n ts t s.2 h k)
 
 spans_rise : (at stop : ℕ) (ts : List Token) → AreSpans at ts stop → at ≤ stop
 spans_rise at stop [] h = h
@@ -56,32 +50,10 @@ module _ (text more : List ℕ) where
   words_longer [] s = refl
   words_longer (t ∷ ts) s = ap₂ (λ w ws. (word_of t.kind w, t.start) ∷ ws) (spelled_longer t s.0 s.1) (words_longer ts s.2)
 
-  word_selector_longer : (ts : List Token) → Stand (length text) ts → is_word_selector (text ++ more) ts ≡ is_word_selector text ts
-  word_selector_longer [] s = refl
-  word_selector_longer (a ∷ []) s = refl
-  word_selector_longer (a ∷ c ∷ []) s =
-      ap (λ w. is_colon c.kind && (is_bang a.kind || (is_word a.kind && (bytes_eq w (codes "all") || bytes_eq w (codes "par"))))) (spelled_longer a s.0 s.1)
-  word_selector_longer (a ∷ c ∷ d ∷ ts) s = refl
-
-  named_selector_longer : (ts : List Token) → Stand (length text) ts → is_named_selector (text ++ more) ts ≡ is_named_selector text ts
-  named_selector_longer [] s = refl
-  named_selector_longer (a ∷ []) s = refl
-  named_selector_longer (a ∷ c ∷ []) s = refl
-  named_selector_longer (a ∷ c ∷ d ∷ []) s = refl
-  named_selector_longer (a ∷ c ∷ d ∷ e ∷ []) s =
-      ap (λ w. is_open_square a.kind && is_word c.kind && not (is_reserved w) && is_close_square d.kind && is_colon e.kind) (spelled_longer c s.2.0 s.2.1)
-  named_selector_longer (a ∷ c ∷ d ∷ e ∷ f ∷ ts) s = refl
-
-  closes_longer : (k : TokenKind) (ts : List Token) → Stand (length text) ts → closes k (text ++ more) ts ≡ closes k text ts
-  unfolding closes opens
-  closes_longer (kind.Symbol sign.OpenCurly) ts s =
-      ap₂ (λ w n. is_empty ts || w || n || ranges_to_colon First ts) (word_selector_longer ts s) (named_selector_longer ts s)
-  closes_longer _ ts s = refl
-
   closed_longer : (before ts : List Token) → Stand (length text) before → Stand (length text) ts → is_closed_behind (text ++ more) before ts ≡ is_closed_behind text before ts
   unfolding is_closed_behind
   closed_longer before [] s k = refl
-  closed_longer before (t ∷ []) s k = closes_longer t.kind before s
+  closed_longer before (t ∷ []) s k = closes_more t.kind text more before s
   closed_longer before (t ∷ u ∷ ts) s k = closed_longer (before ++ t ∷ []) (u ∷ ts) (stand_push (length text) before t s k.0 k.1) k.2
 
 -- ---- a settled sentence has its end

@@ -546,8 +546,9 @@ fn is_barred(bank: &Bank<'_>, places: &IndexMap<NameId, TermId>, holding: &Holdi
     holding.variable || is_one_without_place(bank, places, holding.names.as_slice())
 }
 
-/// Whether a term as it reads holds the variable, or a hypothesis for which there is no place.
-pub(crate) fn is_barred_in(
+/// Whether a term as it reads holds the variable, or a hypothesis for which there is no place; however large it reads, each part is
+/// looked at once.
+pub fn is_barred_in(
     bank: &Bank<'_>,
     store: &Store,
     barred: u32,

@@ -25,4 +25,5 @@ mod unifying;
 pub use exposing::exposed;
 pub use faults::UnifyFault;
 pub use givens::filled;
+pub use holding::is_barred_in;
 pub use unifying::unify;
