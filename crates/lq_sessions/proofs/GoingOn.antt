@@ -9,7 +9,7 @@ use Rattle.lq_grammar.specs.declared.token.TokenKind.{TokenKind}
 use Rattle.lq_grammar.specs.declared.token.TokenKind.TheVariants as kind
 use Rattle.lq_grammar.specs.Cells.{Cells, cells, place, window}
 use Rattle.lq_grammar.specs.Tokens.{Found, nothing, bound, space, word, crossing, flaw, found}
-use Rattle.lq_grammar.specs.Selectors.{spelled, closes}
+use Rattle.lq_grammar.specs.Selectors.{spelled, is_empty, closes}
 use Rattle.lq_grammar.specs.Spans.{AreSpans}
 use Rattle.lq_grammar.specs.Cutting.{Next, sentence as cut_sentence, finished, longest, gathered, is_space, begun, next}
 use Rattle.lq_grammar.specs.Settled.{has_character, is_settled, settled_behind, begins_settled, settles}
