@@ -13,7 +13,7 @@ use Rattle.lq_grammar.proofs.CellLaws.{place-view}
 use Rattle.lq_lex.specs.declared.view.View.{View}
 use Rattle.lq_lex.specs.declared.view.Front.{Front}
 use Rattle.lq_lex.specs.declared.view.Front.TheVariants.{Over, Broken, Beyond, Letter}
-use Rattle.lq_lex.specs.Views.{from, Shows, Adds, Values}
+use Rattle.lq_lex.specs.Views.{from, Shows, Adds, Values, IsValue, ReadsDigit}
 
 -- a token that ends where the rest of a view begins
 pub token_to : (v : View) (k : TokenKind) (start stop : ℕ) → token k start (from v stop) ≡ word (record { kind = k; start = start; end = stop }) (from v stop)
@@ -103,6 +103,11 @@ values_more None digit None cs rest total adds goes values = values
 values_more None digit (Some m) cs rest total adds goes values = absurd cc
 values_more (Some n) digit None cs rest total adds goes values = let less = value_grows (10 * n + digit) rest in omega (arith, less, goes n, values, adds)
 values_more (Some n) digit (Some m) cs rest total adds goes values = rw adds (sym (goes n) ∙ values)
+
+-- where no digit is left
+pub values_end : (v : View) (at : ℕ) (value : Option ℕ) (total : ℕ) → ReadsDigit v at None → Values value (from v at) total → IsValue value total
+values_end v at None total ends values = values
+values_end v at (Some n) total ends values = sym values ∙ ends.1 n
 
 pub number_too_large : (p total : ℕ) (rest : Cells) → 2 ^ 128 ≤ total → number_by p total rest ≡ flaw (BadNumber p)
 unfolding number_by

@@ -93,6 +93,11 @@ abbrev pub Values : Option ℕ → Cells → ℕ → Type 0
 Values None cs total = 2 ^ 128 ≤ total
 Values (Some n) cs total = value_from n cs ≡ total
 
+-- the value that is told of a number, where it is less than 2^128
+abbrev pub IsValue : Option ℕ → ℕ → Type 0
+IsValue None total = 2 ^ 128 ≤ total
+IsValue (Some n) total = total ≡ n
+
 -- a bullet begins
 abbrev pub IsBullet : Class → Type 0
 IsBullet class.Bullet = Unit {0}

@@ -16,7 +16,7 @@ pub(crate) fn is_mark(c: char) -> bool
 
 /// What a character begins before another, at the start of a sentence or inside it.
 #[tactic(auto, unfolding(lq_grammar::specs::Tokens::class_of))]
-pub(crate) fn class_of(is_start: bool, c: char, d: char) -> Class
+pub fn class_of(is_start: bool, c: char, d: char) -> Class
     ensures { result ≡ class_of is_start c d }
 {
     if is_blank(c) {

@@ -14,9 +14,12 @@ mod strings;
 mod symbols;
 mod view;
 
+pub use classes::class_of;
 pub use cutting::cut;
 pub use found::{Found, scan};
 pub use lq_grammar::{LexFault, Symbol, Token, TokenKind};
+pub use numbers::digits;
 pub use piece::{Piece, Tokens};
+pub use runs::{Run, run_end};
 pub use selectors::closes;
-pub use view::View;
+pub use view::{Front, View};

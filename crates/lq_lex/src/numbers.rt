@@ -1,8 +1,10 @@
 //! Numbers.
 
-ghost use Rattle.std.specs.Prelude.{◌≤◌, length};
-ghost use Rattle.lq_grammar.specs.Tokens.{number_at, number_by};
-ghost use Rattle.lq_lex.specs.Views.{from, Adds, ReadsDigit, Tells};
+ghost use Rattle.std.specs.Prelude.{◌≡◌, ◌≤◌, length};
+ghost use Rattle.std.specs.Char.{is_ascii_digit};
+ghost use Rattle.lq_grammar.specs.Cells.{past};
+ghost use Rattle.lq_grammar.specs.Tokens.{number_at, number_by, value_from};
+ghost use Rattle.lq_lex.specs.Views.{from, Adds, IsValue, ReadsDigit, Tells};
 
 use crate::characters::continues_name;
 use crate::found::{Found, token};
@@ -48,10 +50,13 @@ fn number_end(view: &View<'_>, value: u128, start: usize, at: usize) -> Found
     }
 }
 
-/// A number that begins at a place.
-pub(crate) fn number(view: &View<'_>, start: usize) -> Found
+/// The value of the digits from a place on, nothing where it is 2^128 or more, and the place behind them.
+pub fn digits(view: &View<'_>, start: usize) -> (Option<u128>, usize)
     requires { start ≤ length view.now.text.now }
-    ensures { Tells view.now result (number_at start (from view.now start)) }
+    ensures value { IsValue result.0 (value_from 0 (from view.now start)) }
+    ensures behind { past is_ascii_digit (from view.now start) ≡ from view.now result.1 }
+    ensures ahead { start ≤ result.1 }
+    ensures within { result.1 ≤ length view.now.text.now }
 {
     let mut value = Some(0);
     let mut at = start;
@@ -59,6 +64,15 @@ pub(crate) fn number(view: &View<'_>, start: usize) -> Found
         value = with_digit(value, digit);
         at = next;
     }
+    (value, at)
+}
+
+/// A number that begins at a place.
+pub(crate) fn number(view: &View<'_>, start: usize) -> Found
+    requires { start ≤ length view.now.text.now }
+    ensures { Tells view.now result (number_at start (from view.now start)) }
+{
+    let (value, at) = digits(view, start);
     match value {
         Some(value) => number_end(view, value, start, at),
         None => Found::Flaw(LexFault::BadNumber(start)),

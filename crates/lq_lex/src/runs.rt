@@ -15,7 +15,7 @@ const LONGEST_NAME: usize = 255;
 
 /// Which characters a run has.
 #[derive(Clone, Copy)]
-pub(crate) enum Run {
+pub enum Run {
     /// Those that a name goes on with.
     Name,
     /// This character.
@@ -45,7 +45,7 @@ fn step(view: &View<'_>, at: usize, run: Run) -> Option<usize>
 }
 
 /// The place behind a run.
-fn run_end(view: &View<'_>, start: usize, run: Run) -> usize
+pub fn run_end(view: &View<'_>, start: usize, run: Run) -> usize
     requires { start ≤ length view.now.text.now }
     ensures value { past (test_of run) (from view.now start) ≡ from view.now result }
     ensures ahead { start ≤ result }

@@ -11,7 +11,7 @@ use crate::characters::is_blank;
 
 /// What stands at the front of a text.
 #[derive(Clone, Copy)]
-pub(crate) enum Front {
+pub enum Front {
     /// The text ends.
     Over,
     /// A byte that begins no character.
@@ -73,7 +73,7 @@ fn decode(text: &[u8], at: usize) -> (Option<char>, usize)
 
 impl View<'_> {
     /// What stands at a place.
-    pub(crate) fn front(&self, at: usize) -> Front
+    pub fn front(&self, at: usize) -> Front
         requires { at ≤ length self.now.text.now }
         ensures { Shows self.now at result }
     {
@@ -99,7 +99,7 @@ impl View<'_> {
     }
 
     /// The character at a place, NUL where there is none.
-    pub(crate) fn character(&self, at: usize) -> char
+    pub fn character(&self, at: usize) -> char
         requires { at ≤ length self.now.text.now }
         ensures { result ≡ front (from self.now at) }
     {

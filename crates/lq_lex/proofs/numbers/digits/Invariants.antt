@@ -3,7 +3,7 @@ use Rattle.std.specs.Char.{is_ascii_digit}
 use Rattle.lq_grammar.specs.Cells.{past}
 use Rattle.lq_grammar.specs.Tokens.{value_from}
 use Rattle.lq_lex.specs.Views.{from, Values}
-use Rattle.lq_lex.proofs.numbers.number.Given as goal
+use Rattle.lq_lex.proofs.numbers.digits.Given as goal
 
 abbrev pub invariant-loop-digit : goal.invariant-loop-digit
 invariant-loop-digit l = record {
