@@ -1,6 +1,6 @@
 -- Names, numbers, bullets and symbols, by what stands behind their characters.
 use Rattle.std.proofs.Common.{◌≡◌, ℕ, ◌+◌, ◌-◌, ◌*◌, ◌^◌, ◌<◌, ◌≤◌, min, Bool, true, false, Option, Some, None, refl, sym, ap, ◌∙◌, arith, if◌then◌else◌}
-use Rattle.std.specs.Prelude.{nat_lt, ◌==◌}
+use Rattle.std.specs.Prelude.{nat_lt, ◌==◌, IfSome}
 use Rattle.std.proofs.lemmas.Bool.{lt-ltb, le-ltb, le-leb, lt-leb}
 use Rattle.lq_grammar.specs.declared.fault.LexFault.TheVariants.{BadChar, BadNumber}
 use Rattle.lq_grammar.specs.declared.token.TokenKind.{TokenKind}
@@ -105,9 +105,9 @@ values_more (Some n) digit None cs rest total adds goes values = let less = valu
 values_more (Some n) digit (Some m) cs rest total adds goes values = rw adds (sym (goes n) ∙ values)
 
 -- where no digit is left
-pub values_end : (v : View) (at : ℕ) (value : Option ℕ) (total : ℕ) → ReadsDigit v at None → Values value (from v at) total → IsValue value total
-values_end v at None total ends values = values
-values_end v at (Some n) total ends values = sym values ∙ ends.1 n
+pub values_end : (v : View) (at : ℕ) (value : Option ℕ) (total : ℕ) → ReadsDigit v at None → Values value (from v at) total → IfSome value (λ n. n < 2 ^ 128) → IsValue value total
+values_end v at None total ends values fits = values
+values_end v at (Some n) total ends values fits = (sym values ∙ ends.1 n, fits)
 
 pub number_too_large : (p total : ℕ) (rest : Cells) → 2 ^ 128 ≤ total → number_by p total rest ≡ flaw (BadNumber p)
 unfolding number_by

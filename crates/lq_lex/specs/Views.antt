@@ -96,7 +96,7 @@ Values (Some n) cs total = value_from n cs ≡ total
 -- the value that is told of a number, where it is less than 2^128
 abbrev pub IsValue : Option ℕ → ℕ → Type 0
 IsValue None total = 2 ^ 128 ≤ total
-IsValue (Some n) total = total ≡ n
+IsValue (Some n) total = (total ≡ n) × (n < 2 ^ 128)
 
 -- a bullet begins
 abbrev pub IsBullet : Class → Type 0

@@ -123,7 +123,7 @@ fn is_space_class(class: Class) -> bool
 }
 
 /// Whether a blank or a comment begins at a place.
-fn is_space(view: &View<'_>, at: usize) -> bool
+pub fn is_space(view: &View<'_>, at: usize) -> bool
     requires { at ≤ length view.now.text.now }
     ensures { result ≡ is_space (view_from view.now at) }
 {
@@ -154,7 +154,7 @@ fn sentence_start(view: &View<'_>, start: usize) -> Result<Option<usize>, LexFau
 }
 
 /// The bound of a sentence that begins at a place: where it lies behind the text, the end of the text serves.
-fn bound(text: &[u8], start: usize) -> usize
+pub fn bound(text: &[u8], start: usize) -> usize
     requires { start ≤ length text.now }
     ensures { view result text.now start ≡ view (start + longest) text.now start }
 {

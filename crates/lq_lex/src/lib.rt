@@ -15,7 +15,7 @@ mod symbols;
 mod view;
 
 pub use classes::class_of;
-pub use cutting::cut;
+pub use cutting::{bound, cut, is_space};
 pub use found::{Found, scan};
 pub use lq_grammar::{LexFault, Symbol, Token, TokenKind};
 pub use numbers::digits;

@@ -1,6 +1,6 @@
 //! Numbers.
 
-ghost use Rattle.std.specs.Prelude.{◌≡◌, ◌≤◌, length};
+ghost use Rattle.std.specs.Prelude.{◌≡◌, ◌<◌, ◌≤◌, ◌^◌, length, IfSome};
 ghost use Rattle.std.specs.Char.{is_ascii_digit};
 ghost use Rattle.lq_grammar.specs.Cells.{past};
 ghost use Rattle.lq_grammar.specs.Tokens.{number_at, number_by, value_from};
@@ -29,7 +29,8 @@ fn digit_at(view: &View<'_>, at: usize) -> Option<(u32, usize)>
 
 /// The value of a number with one digit more; nothing where it is 2^128 or more.
 fn with_digit(value: Option<u128>, digit: u32) -> Option<u128>
-    ensures { Adds value digit result }
+    ensures adds { Adds value digit result }
+    ensures fits { IfSome result (λ n. n < 2 ^ 128) }
 {
     let tens = value?.checked_mul(10)?;
     tens.checked_add(u128::from(digit))
