@@ -16,15 +16,17 @@ use Rattle.lq_solving.proofs.DoneLaws.{done_reads, done_leads}
 use Rattle.lq_solving.proofs.Good.{good_done, good_over, good_within}
 use Rattle.lq_solving.proofs.Later.{good_read}
 use Rattle.lq_evars.specs.declared.store.StoreFault.{StoreFault}
-use Rattle.lq_evars.specs.Places.{Places}
+use Rattle.lq_evars.specs.Places.{Places, store_of}
 use Rattle.lq_evars.specs.Reading.{Answers, Gives}
 use Rattle.lq_tactics.specs.Rows.{RowFault, by_store_call, Doing, Step, done_by, needed, given_to}
 use Rattle.lq_prims.specs.declared.faults.PrimFault.{PrimFault}
 use Rattle.lq_prims.specs.Refusals.{store_refusal}
-use Rattle.lq_prims.specs.Giving.{ComesOut}
+use Rattle.lq_prims.specs.Working.{Refuses, Tells}
+use Rattle.lq_prims.specs.Scenes.{step_by}
+use Rattle.lq_prims.proofs.WorkLaws.{refuses_at_once, no_memory}
 
 -- a term that fits as it reads is as it reads
-reads_is : (s : Store) (t u : Tree) → read_fitting s t ≡ Ok u → (size_fault (read s t) ≡ None) × (read s t ≡ u)
+pub reads_is : (s : Store) (t u : Tree) → read_fitting s t ≡ Ok u → (size_fault (read s t) ≡ None) × (read s t ≡ u)
 unfolding read_fitting
 reads_is s t u e = at (size_fault (read s t)) refl e
   where
@@ -32,7 +34,7 @@ reads_is s t u e = at (size_fault (read s t)) refl e
     at None p q = (p, ap (λ z. elim z as (λ w. Tree) [ Ok w ↦ w | Err f ↦ u ]) q)
     at (Some f) p q = absurd (grind (arith, q))
 
-reads_not : (s : Store) (t : Tree) (f : TreeFault) → read_fitting s t ≡ Err f → size_fault (read s t) ≡ Some f
+pub reads_not : (s : Store) (t : Tree) (f : TreeFault) → read_fitting s t ≡ Err f → size_fault (read s t) ≡ Some f
 unfolding read_fitting
 reads_not s t f e = at (size_fault (read s t)) refl e
   where
@@ -59,21 +61,22 @@ fits_goes s k t u ks e =
 
 -- ---- what the call answers
 
-pub read_refused : (bank : Terms) (p : Places) (s : Store) (k : ℕ) (t : Tree) (f : StoreFault) (r : Result (Unit {0}) PrimFault) → IsErrAnd r (λ y. y ≡ store_refusal f) → Answers bank (Err f) (read_fitting s t) →
-    (ks : List ℕ) → ComesOut bank r p ks (given_to k (done_by s t ks))
-read_refused bank p s k t f r e a ks =
-    let q = err_from_is_err_and r e in along (λ z. ComesOut bank z p ks (given_to k (done_by s t ks))) (sym (q.1 ∙ ap Err q.2)) (at f a)
+pub read_refused : (bank new : Terms) (p : Places) (s : Store) (k : ℕ) (t : Tree) (f : StoreFault) (r : Result (Unit {0}) PrimFault) → IsErrAnd r (λ y. y ≡ store_refusal f) → Answers bank (Err f) (read_fitting s t) →
+    (ks : List ℕ) → Tells bank (λ u. step_by (store_of new p) ks) r (given_to k (done_by s t ks))
+read_refused bank new p s k t f r e a ks =
+    let q = err_from_is_err_and r e in along (λ z. Tells bank (λ u. step_by (store_of new p) ks) z (given_to k (done_by s t ks))) (sym (q.1 ∙ ap Err q.2)) (at f a)
   where
-    at : (g : StoreFault) → Answers bank (Err g) (read_fitting s t) → ComesOut bank (Err (store_refusal g)) p ks (given_to k (done_by s t ks))
-    at StoreFault.TooLarge h = (by_store_call read_too_large, limit_fails s k t ks read_too_large h, refl)
-    at StoreFault.TooDeep h = (by_store_call read_too_deep, limit_fails s k t ks read_too_deep h, refl)
-    at StoreFault.Full h = absurd h
-    at StoreFault.NoMemory h = tt
+    at : (g : StoreFault) → Answers bank (Err g) (read_fitting s t) → (b : ℕ) → Refuses bank (store_refusal g) (λ n. given_to k (done_by s t ks)) b b
+    at StoreFault.TooLarge h b = refuses_at_once bank (store_refusal StoreFault.TooLarge) (by_store_call read_too_large) (given_to k (done_by s t ks)) refl (limit_fails s k t ks read_too_large h) b
+    at StoreFault.TooDeep h b = refuses_at_once bank (store_refusal StoreFault.TooDeep) (by_store_call read_too_deep) (given_to k (done_by s t ks)) refl (limit_fails s k t ks read_too_deep h) b
+    at StoreFault.Full h b = absurd h
+    at StoreFault.NoMemory h b = no_memory bank (λ n. given_to k (done_by s t ks)) b b
 
-pub too_large : (s : Store) (k : ℕ) (t u : Tree) → read_fitting s t ≡ Ok u → (has_value s k || holds_variable k u) ≡ true → (ks : List ℕ) →
-    (x : RowFault) × (given_to k (done_by s t ks) ≡ fails x) × (x ≡ by_store_call read_too_large)
-too_large s k t u e h ks =
-    (by_store_call read_too_large, fits_goes s k t u ks e ∙ ap (λ b. elim b as (λ z. Doing Step) [ true ↦ fails (by_store_call read_too_large) | false ↦ gives (record { store = with_value s k u; goals = ks }) ]) h, refl)
+pub too_large : (bank : Terms) (s : Store) (k : ℕ) (t u : Tree) → read_fitting s t ≡ Ok u → (has_value s k || holds_variable k u) ≡ true → (ks : List ℕ) (b : ℕ) →
+    Refuses bank (PrimFault.Store StoreFault.TooLarge) (λ n. given_to k (done_by s t ks)) b b
+too_large bank s k t u e h ks b =
+    refuses_at_once bank (PrimFault.Store StoreFault.TooLarge) (by_store_call read_too_large) (given_to k (done_by s t ks)) refl
+    (fits_goes s k t u ks e ∙ ap (λ b. elim b as (λ z. Doing Step) [ true ↦ fails (by_store_call read_too_large) | false ↦ gives (record { store = with_value s k u; goals = ks }) ]) h) b
 
 pub left_true : (a b : Bool) → a ≡ true → (a || b) ≡ true
 left_true a b e = ap (λ z. z || b) e
@@ -129,19 +132,19 @@ given_fits : (s : Store) (k : ℕ) (u : Tree) → size_fault (read s u) ≡ None
 unfolding assigned
 given_fits s k u e = ap (λ o. elim o as (λ z. Result Store TreeFault) [ None ↦ Ok (with_value s k u) | Some f ↦ Err f ]) e
 
-pub assign_refused : (bank : Terms) (p : Places) (s : Store) (k : ℕ) (t u : Tree) (f : StoreFault) (r : Result (Unit {0}) PrimFault) → IsStore s → Stands s (names_at s.variables k) t → read_fitting s t ≡ Ok u →
-    IsErrAnd r (λ y. y ≡ store_refusal f) → Gives bank (Err f) p (assigned s k u) → (ks : List ℕ) → ComesOut bank r p ks (given_to k (done_by s t ks))
-assign_refused bank p s k t u f r i h e a g ks =
-    let q = err_from_is_err_and r a in along (λ z. ComesOut bank z p ks (given_to k (done_by s t ks))) (sym (q.1 ∙ ap Err q.2)) (at f g)
+pub assign_refused : (bank new : Terms) (p : Places) (s : Store) (k : ℕ) (t u : Tree) (f : StoreFault) (r : Result (Unit {0}) PrimFault) → IsStore s → Stands s (names_at s.variables k) t → read_fitting s t ≡ Ok u →
+    IsErrAnd r (λ y. y ≡ store_refusal f) → Gives bank (Err f) p (assigned s k u) → (ks : List ℕ) → Tells bank (λ u. step_by (store_of new p) ks) r (given_to k (done_by s t ks))
+assign_refused bank new p s k t u f r i h e a g ks =
+    let q = err_from_is_err_and r a in along (λ z. Tells bank (λ u. step_by (store_of new p) ks) z (given_to k (done_by s t ks))) (sym (q.1 ∙ ap Err q.2)) (at f g)
   where
     not : (w : TreeFault) → assigned s k u ≡ Err w → ⊥
     not w z = grind (arith, sym (given_fits s k u (again s t u i k h e)) ∙ z)
 
-    at : (w : StoreFault) → Gives bank (Err w) p (assigned s k u) → ComesOut bank (Err (store_refusal w)) p ks (given_to k (done_by s t ks))
-    at StoreFault.TooLarge z = absurd (not read_too_large z)
-    at StoreFault.TooDeep z = absurd (not read_too_deep z)
-    at StoreFault.Full z = absurd z
-    at StoreFault.NoMemory z = tt
+    at : (w : StoreFault) → Gives bank (Err w) p (assigned s k u) → (b : ℕ) → Refuses bank (store_refusal w) (λ n. given_to k (done_by s t ks)) b b
+    at StoreFault.TooLarge z b = absurd (not read_too_large z)
+    at StoreFault.TooDeep z b = absurd (not read_too_deep z)
+    at StoreFault.Full z b = absurd z
+    at StoreFault.NoMemory z b = no_memory bank (λ n. given_to k (done_by s t ks)) b b
 
 pub assign_given : (s new : Store) (k : ℕ) (t u : Tree) → IsStore s → Stands s (names_at s.variables k) t → read_fitting s t ≡ Ok u → has_value s k ≡ false → holds_variable k u ≡ false → assigned s k u ≡ Ok new → (ks : List ℕ) →
     given_to k (done_by s t ks) ≡ gives (record { store = new; goals = ks })

@@ -1,2 +1,4 @@
 pub mod Refusals
-pub mod Giving
+pub mod Working
+pub mod Scenes
+pub mod Binders

@@ -1,7 +1,11 @@
 //! Why a primitive does nothing.
 
+use lq_beta::BetaFault;
 use lq_evars::StoreFault;
+use lq_reduce::ReduceFault;
 use lq_terms::{NameId, NoMemory, TermId};
+use lq_typing::ElabFault;
+use lq_unify::UnifyFault;
 
 /// Why a primitive of the first table does nothing. A term that is named is as it reads at that moment.
 #[derive(Clone, Copy)]
@@ -30,6 +34,8 @@ pub enum PrimFault {
     NotAnEquality(TermId),
     /// The two sides of the equality do not unify.
     DoNotUnify(TermId, TermId),
+    /// What else a call that the row makes is refused for: elaboration, inference, unification, reduction; and the budget that is spent.
+    Elab(ElabFault),
     /// What a call of the row on the store is refused for; and `TooLarge` where the goal's body would hold the goal itself, or
     /// the row's work gave the goal a value.
     Store(StoreFault),
@@ -61,5 +67,62 @@ impl From<NoMemory> for PrimFault {
 
     fn from(_: NoMemory) -> PrimFault {
         PrimFault::NoMemory
+    }
+}
+
+impl From<ReduceFault> for PrimFault {
+    ghost use Rattle.std.specs.Prelude.{◌≡◌};
+    ghost use Rattle.lq_prims.specs.Refusals.{reduce_refusal};
+
+    ghost from_gives = { λ f e. e ≡ reduce_refusal f };
+
+    fn from(fault: ReduceFault) -> PrimFault {
+        match fault {
+            ReduceFault::StepsOut => PrimFault::Elab(ElabFault::StepsOut),
+            ReduceFault::TooLarge => PrimFault::Elab(ElabFault::TooLarge),
+            ReduceFault::TooDeep => PrimFault::Elab(ElabFault::TooDeep),
+            ReduceFault::NoMemory => PrimFault::NoMemory,
+        }
+    }
+}
+
+impl From<UnifyFault> for PrimFault {
+    ghost use Rattle.std.specs.Prelude.{◌≡◌};
+    ghost use Rattle.lq_prims.specs.Refusals.{unify_refusal};
+
+    ghost from_gives = { λ f e. e ≡ unify_refusal f };
+
+    fn from(fault: UnifyFault) -> PrimFault {
+        match fault {
+            UnifyFault::StepsOut => PrimFault::Elab(ElabFault::StepsOut),
+            UnifyFault::TooLarge => PrimFault::Elab(ElabFault::TooLarge),
+            UnifyFault::TooDeep => PrimFault::Elab(ElabFault::TooDeep),
+            UnifyFault::NoMemory => PrimFault::NoMemory,
+        }
+    }
+}
+
+impl From<BetaFault> for PrimFault {
+    ghost use Rattle.std.specs.Prelude.{◌≡◌};
+    ghost use Rattle.lq_prims.specs.Refusals.{beta_refusal};
+
+    ghost from_gives = { λ f e. e ≡ beta_refusal f };
+
+    fn from(fault: BetaFault) -> PrimFault {
+        match fault {
+            BetaFault::StepsOut => PrimFault::Elab(ElabFault::StepsOut),
+            BetaFault::NoMemory => PrimFault::NoMemory,
+        }
+    }
+}
+
+impl From<ElabFault> for PrimFault {
+    ghost use Rattle.std.specs.Prelude.{◌≡◌};
+    ghost use Rattle.lq_prims.specs.declared.faults.PrimFault.{PrimFault};
+
+    ghost from_gives = { λ f e. e ≡ PrimFault.Elab f };
+
+    fn from(fault: ElabFault) -> PrimFault {
+        PrimFault::Elab(fault)
     }
 }

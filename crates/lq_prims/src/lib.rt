@@ -1,8 +1,13 @@
 //! The primitives of the first table: what each does on one goal.
 #![tactic(auto)]
 
+mod binders;
+mod comparing;
 mod faults;
 mod giving;
 mod holding;
+mod naming;
+mod needing;
+mod standing;
 
 pub use faults::PrimFault;
