@@ -21,7 +21,7 @@ use Rattle.lq_elab.specs.Waiting.{function_of, application_of, with_more, resume
 use Rattle.lq_elab.proofs.ArgumentLaws.{comes_ticks, lacks_ticks, several_arguments}
 
 -- one work, and then what is the same for each answer
-same_then : {A B : Type 0} (x : Elab A) (k l : A → Elab B) → ((a : A) → k a ≡ l a) → (x >>= k) ≡ (x >>= l)
+pub same_then : {A B : Type 0} (x : Elab A) (k l : A → Elab B) → ((a : A) → k a ≡ l a) → (x >>= k) ≡ (x >>= l)
 same_then x k l e = ap (λ f. x >>= f) (fun_ext e)
 
 -- work that is the same for each bound

@@ -2,5 +2,10 @@ pub mod Arguments
 pub mod Waiting
 pub mod Naming
 pub mod Views
+pub mod Nodes
 pub mod Scopes
 pub mod Frames
+pub mod Forms
+pub mod Agreeing
+pub mod Answers
+pub mod States

@@ -128,3 +128,7 @@ asked_work e vs l s t w n = elaborate (at n e) l.binders l.context s t w >>= go_
 -- what comes of the rest leads to what comes of the whole
 abbrev pub Leads : (whole rest : ℕ → Elab Found) → (budget left : ℕ) → Type 0
 Leads f g budget left = (o : Outcome ElabFault Found) → ComesTo g left o → ComesTo f budget o
+
+-- what was found is held against the wanted type, and what waits goes on
+abbrev pub held_work : Site → List Waiting → Context → Option Tree → Found → ℕ → Elab Found
+held_work e vs g w x n = against (at n e) g w x >>= λ z. found_work e vs z n

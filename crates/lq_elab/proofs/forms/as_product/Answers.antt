@@ -1,0 +1,6 @@
+use Rattle.std.proofs.Common.{refl}
+use Rattle.lq_elab.proofs.FormLaws.{other_product}
+use Rattle.lq_elab.proofs.forms.as_product.Goals as goal
+
+pub returns-in_default : goal.returns-in_default
+returns-in_default c = (refl, other_product c.args.bank.now c.node.result.now c.args.form c.node.ensures.tree (λ x a b e. c.in_default.not-Prod x a b e))
