@@ -6,3 +6,5 @@ pub mod EntryLaws
 pub mod NameLaws
 pub mod NeedLaws
 pub mod CompareLaws
+pub mod SceneLaws
+pub mod AssumptionLaws
