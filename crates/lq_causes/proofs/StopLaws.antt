@@ -35,7 +35,7 @@ within_told h b cut = refl
 within_told h zero (tick p) = refl
 within_told h (suc b) (tick p) = within_told h b p
 
-comes_told : {F G A : Type 0} (h : F → G) (f : ℕ → Paid F A) (b : ℕ) (o : Outcome F A) → ComesTo f b o → ComesTo (λ n. faults_as h (f n)) b (outcome_as h o)
+pub comes_told : {F G A : Type 0} (h : F → G) (f : ℕ → Paid F A) (b : ℕ) (o : Outcome F A) → ComesTo f b o → ComesTo (λ n. faults_as h (f n)) b (outcome_as h o)
 comes_told h f b o c n l = within_told h b (f n) ∙ ap (outcome_as h) (c n l)
 
 -- tokens and syntax

@@ -2,16 +2,16 @@
 use Rattle.std.proofs.Common.{◌≡◌, ◌∙◌, refl, sym, ap, ap₂, subst, arith, ℕ, zero, suc, ◌+◌, ◌<◌, ◌^◌, Bool, true, false, ◌||◌, List, [], ◌∷◌, ◌++◌, length, take, drop, None}
 use Rattle.std.proofs.lemmas.Bool.{true≢false}
 use Rattle.std.proofs.lemmas.List.{length-map}
-use Rattle.lq_trees.specs.Tree.{Name, Tree, Context, Hypothesis as TreeHypothesis, same_name}
+use Rattle.lq_trees.specs.Tree.{Name, Context, Hypothesis as TreeHypothesis, same_name}
 use Rattle.lq_trees.specs.Index.{Within}
 use Rattle.lq_trees.specs.Fresh.{is_listed, fresh, opened, under}
 use Rattle.lq_terms.specs.declared.nodes.Hypothesis.{Hypothesis}
 use Rattle.lq_terms.specs.declared.nodes.NameId.{NameId}
 use Rattle.lq_terms.specs.declared.nodes.TermId.{TermId}
-use Rattle.lq_terms.specs.Terms.{Terms, HasName, HasTerm, Grows, IsTerm, IsName, text_of, tree_of}
+use Rattle.lq_terms.specs.Terms.{Terms, HasName, Grows, IsTerm, IsName, text_of, tree_of}
 use Rattle.lq_terms.specs.Contexts.{context_of, hypothesis_of}
 use Rattle.lq_env.specs.Families.{names_behind}
-use Rattle.lq_kernel.specs.Closed.{IsScoped, IsHypothesis, IsContext}
+use Rattle.lq_kernel.specs.Closed.{IsScoped, IsContext}
 use Rattle.lq_kernel.specs.Declaring.{IsOfferedNext, IsOfferedBehind}
 use Rattle.lq_kernel.proofs.Trees.{within-opened}
 use Rattle.lq_kernel.proofs.Grown.{IsScoped-grown, IsContext-grown, IsContext-push, context_of-push, context_at}

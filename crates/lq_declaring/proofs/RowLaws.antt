@@ -1,14 +1,13 @@
 -- A row of products over one list of binders is the row over parameters and indices.
-use Rattle.std.proofs.Common.{◌≡◌, ◌∙◌, refl, sym, ap, ap₂, subst, arith, ℕ, zero, suc, ◌+◌, ◌≤◌, ◌<◌, max, Bool, true, false, List, [], ◌∷◌, ◌++◌, length, length-append, take, drop, append-nil, append_assoc, None}
+use Rattle.std.proofs.Common.{◌≡◌, ◌∙◌, refl, sym, ap, ap₂, arith, ℕ, zero, suc, ◌+◌, ◌≤◌, true, false, List, [], ◌∷◌, ◌++◌, length, length-append, take, drop, append-nil, append_assoc, None}
 use Rattle.std.proofs.lemmas.Bool.{true≢false}
 use Rattle.lq_trees.specs.declared.Sort.{Sort as Universe}
-use Rattle.lq_trees.specs.Tree.{Name, Tree, Context, Hypothesis}
+use Rattle.lq_trees.specs.Tree.{Tree, Context, Hypothesis}
 use Rattle.lq_trees.specs.Tree.Tree.{Rel, Var, Sort, Prod, Lam, Let, App, Const, Ind, Ctor, Elim, Evar}
-use Rattle.lq_trees.specs.Ticks.{gives, fails}
+use Rattle.lq_trees.specs.Ticks.{gives}
 use Rattle.lq_trees.specs.Size.{depth}
 use Rattle.lq_trees.specs.Fresh.{fresh, opened, under}
 use Rattle.lq_calculus.specs.Typing.{is_product}
-use Rattle.lq_texts.specs.Causes.{not_a_sort}
 use Rattle.lq_sessions.specs.Sessions.{Work}
 use Rattle.lq_sessions.specs.Declaring.{Row, row_within, row_of}
 use Rattle.lq_declaring.specs.Rows.{row_end, row_on}
@@ -36,12 +35,12 @@ none_left : {A : Type 0} (k : ℕ) → drop k (none A) ≡ []
 none_left zero = refl
 none_left (suc k) = refl
 
-taken_over : {A : Type 0} (xs : List A) (n : ℕ) → length xs ≤ n → take n xs ≡ xs
+pub taken_over : {A : Type 0} (xs : List A) (n : ℕ) → length xs ≤ n → take n xs ≡ xs
 taken_over [] n l = none_taken n
 taken_over (x ∷ xs) zero l = absurd (omega (arith, l))
 taken_over (x ∷ xs) (suc n) l = ap (λ zs. x ∷ zs) (taken_over xs n (omega (arith, l)))
 
-left_over : {A : Type 0} (xs : List A) (n : ℕ) → length xs ≤ n → drop n xs ≡ []
+pub left_over : {A : Type 0} (xs : List A) (n : ℕ) → length xs ≤ n → drop n xs ≡ []
 left_over [] n l = none_left n
 left_over (x ∷ xs) zero l = absurd (omega (arith, l))
 left_over (x ∷ xs) (suc n) l = left_over xs n (omega (arith, l))

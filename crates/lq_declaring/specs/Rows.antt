@@ -1,5 +1,5 @@
 -- Rows of products over one list of binders, and what the calls on them tell.
-use Rattle.std.specs.Prelude.{◌≡◌, ◌≤◌, ℕ, zero, suc, true, false, List, [], take, drop, Option, Some, None, Result, Ok, Err}
+use Rattle.std.specs.Prelude.{◌≡◌, ◌≤◌, ◌+◌, ℕ, length, suc, true, List, [], take, drop, Option, Some, None, Result, Ok, Err}
 use Rattle.lq_trees.specs.declared.Sort.{Sort as Universe}
 use Rattle.lq_trees.specs.Tree.{Name, Tree, Context}
 use Rattle.lq_trees.specs.Tree.Tree.{Sort, Prod}
@@ -39,6 +39,7 @@ pub record Enters (bank : Terms) (binders : List Hypothesis) (h : Context) (x : 
 
 -- the binders of a row's products, and what stands behind the last of them
 pub record GoesBehind (bank : Terms) (binders : List Hypothesis) (t : Tree) (rest : TermId) : Type 0 where
+  pub few : length binders ≤ depth t
   pub context : IsContext bank binders
   pub offered : IsOfferedBehind [] (context_of bank binders)
   pub has : HasTerm bank rest
@@ -70,6 +71,7 @@ FindsRow bank (Err RowFault.NoMemory) w = Unit {0}
 pub record IsOnWay (bank : Terms) (binders : List Hypothesis) (t : Tree) (rest : TermId) : Type 0 where
   pub turns : ℕ
   pub deep : depth (tree_of bank rest) ≤ turns
+  pub few : length binders + turns ≤ depth t
   pub context : IsContext bank binders
   pub offered : IsOfferedBehind [] (context_of bank binders)
   pub scoped : IsScoped bank 0 rest

@@ -1,6 +1,14 @@
 //! What declarations ask of the kernel, once their terms are there.
 #![tactic(auto)]
 
+mod closing;
+mod constants;
+mod families;
 mod rows;
+mod unsolved;
 
+pub use closing::declare_proved;
+pub use constants::{declare_found, declare_written};
+pub use families::declare_inductive;
 pub use rows::{Row, RowFault, row_of};
+pub use unsolved::unsolved_from;

@@ -1,7 +1,8 @@
 //! Rows of products: the arity of a family as its parameters, its indices and its sort.
 
-ghost use Rattle.std.specs.Prelude.{◌≡◌, [], length, take, drop, IfOk};
+ghost use Rattle.std.specs.Prelude.{◌≡◌, ◌+◌, ◌≤◌, [], length, take, drop, IfOk};
 ghost use Rattle.lq_trees.specs.Fresh.{fresh, opened, under};
+ghost use Rattle.lq_trees.specs.Size.{depth};
 ghost use Rattle.lq_terms.specs.Terms.{HasName, HasTerm, text_of, tree_of, Grows};
 ghost use Rattle.lq_terms.specs.Contexts.{context_of};
 ghost use Rattle.lq_kernel.specs.Closed.{IsScoped, IsContext};
@@ -146,6 +147,7 @@ fn split(alloc: Global, binders: &[Hypothesis], count: usize, sort: Sort) -> Res
 pub fn row_of(bank: &mut Bank<'_>, count: usize, term: TermId) -> Result<Row, RowFault>
     requires term { IsScoped bank.old 0 term }
     ensures row { FindsRow bank.new result (row_of count (tree_of bank.old term)) }
+    ensures few { IfOk result (λ row. length row.parameters + length row.indices ≤ depth (tree_of bank.old term)) }
     ensures grows { Grows bank.old bank.new }
 {
     let mut binders = Context::new(bank.allocator());

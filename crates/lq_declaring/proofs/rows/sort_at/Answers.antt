@@ -1,13 +1,11 @@
-use Rattle.std.proofs.Common.{◌≡◌, refl, sym, ap, subst, ℕ}
+use Rattle.std.proofs.Common.{◌≡◌, refl, subst, ℕ}
 use Rattle.lq_trees.specs.declared.Sort.{Sort as Universe}
-use Rattle.lq_trees.specs.Tree.{Tree, Context}
+use Rattle.lq_trees.specs.Tree.{Context}
 use Rattle.lq_trees.specs.Ticks.{fails}
-use Rattle.lq_terms.specs.declared.nodes.NameId.{NameId}
-use Rattle.lq_terms.specs.declared.nodes.TermId.{TermId}
 use Rattle.lq_terms.specs.declared.nodes.Node.{Node}
 use Rattle.lq_terms.specs.Terms.{Terms, node_tree}
 use Rattle.lq_texts.specs.Causes.{not_a_sort}
-use Rattle.lq_declaring.specs.Rows.{row_end, IsSortOr}
+use Rattle.lq_declaring.specs.Rows.{row_end}
 use Rattle.lq_declaring.proofs.rows.sort_at.Goals as goal
 
 no_sort : (bank : Terms) (n : Node) → ((s : Universe) → ¬ (n ≡ Node.Sort s)) → (k : ℕ) (h : Context) → row_end k h (node_tree bank n) ≡ fails (not_a_sort (node_tree bank n))
