@@ -18,6 +18,9 @@ pub mod AskLaws
 pub mod SettleLaws
 pub mod BindSteps
 pub mod ResumeLaws
+pub mod EnterLaws
+pub mod LeaveLaws
+pub mod MadeLaws
 pub mod CallLaws
 pub mod PlainTerms
 pub mod PlainFamilies

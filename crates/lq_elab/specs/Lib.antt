@@ -9,3 +9,6 @@ pub mod Forms
 pub mod Agreeing
 pub mod Answers
 pub mod States
+pub mod Continuing
+pub mod Entering
+pub mod Ending

@@ -3,6 +3,9 @@
 
 mod agreeing;
 mod asking;
+mod binding;
+mod ending;
+mod entering;
 mod finding;
 mod forms;
 mod frames;
