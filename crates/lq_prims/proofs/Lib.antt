@@ -8,3 +8,8 @@ pub mod NeedLaws
 pub mod CompareLaws
 pub mod SceneLaws
 pub mod AssumptionLaws
+pub mod NewGoalLaws
+pub mod IntroNames
+pub mod EnterLaws
+pub mod LaterLaws
+pub mod IntroLaws

@@ -2,3 +2,4 @@ pub mod Refusals
 pub mod Working
 pub mod Scenes
 pub mod Binders
+pub mod Reaching

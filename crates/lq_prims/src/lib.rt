@@ -4,11 +4,13 @@
 mod assumption;
 mod binders;
 mod comparing;
+mod entering;
 mod faults;
 mod giving;
 mod holding;
 mod naming;
 mod needing;
+mod new_goals;
 mod standing;
 
 pub use faults::PrimFault;

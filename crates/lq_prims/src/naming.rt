@@ -1,12 +1,16 @@
 //! Names of new hypotheses.
 
-ghost use Rattle.std.specs.Prelude.{◌≡◌, IfOk};
+ghost use Rattle.std.specs.Prelude.{◌≡◌, ◌<◌, false, length, option_map, Option, IfOk};
 ghost use Rattle.lq_trees.specs.Fresh.{is_listed, fresh_of};
 ghost use Rattle.lq_terms.specs.Terms.{HasName, IsName, text_of, Grows};
 ghost use Rattle.lq_terms.specs.Contexts.{HasContext, context_of};
 ghost use Rattle.lq_solving.specs.Stores.{names_in};
-ghost use Rattle.lq_tactics.specs.Primitives.{or_h};
+ghost use Rattle.lq_evars.specs.Places.{HasNameOr};
+ghost use Rattle.lq_tactics.specs.Rows.{Scene};
+ghost use Rattle.lq_tactics.specs.Primitives.{or_h, intro_name};
+ghost use Rattle.lq_prims.specs.Working.{Tells};
 
+use crate::faults::PrimFault;
 use lq_terms::{Bank, Hypothesis, NameId, NoMemory, name_under};
 
 /// Whether a hypothesis has the name.
@@ -49,4 +53,37 @@ pub(crate) fn fresh_beside(
 {
     let base = base_of(bank, binder)?;
     name_under(bank, context, base)
+}
+
+/// The name of a new hypothesis: the one that is written, unless a hypothesis has it, or else a fresh one from the binder's.
+pub(crate) fn intro_name(
+    bank: &mut Bank<'_>,
+    context: &[Hypothesis],
+    count: usize,
+    written: Option<NameId>,
+    binder: NameId,
+) -> Result<NameId, PrimFault>
+    requires context { HasContext bank.old context.now }
+    requires count { count ≡ length context.now }
+    requires written { HasNameOr bank.old written }
+    requires binder { HasName bank.old binder }
+    ensures answer { (c : Scene) → c.context ≡ context_of bank.old context.now
+        → Tells bank.new (text_of bank.new) result (intro_name c (option_map (text_of bank.old) written) (text_of bank.old binder)) }
+    ensures has { IfOk result (HasName bank.new) }
+    ensures new { IfOk result (λ x. is_listed (names_in (context_of bank.old context.now)) (text_of bank.new x) ≡ false) }
+    ensures grows { Grows bank.old bank.new }
+{
+    match written {
+        None => {
+            let name = fresh_beside(bank, context, binder)?;
+            Ok(name)
+        }
+        Some(name) => {
+            if is_used(bank, context, name) {
+                Err(PrimFault::NameInUse(name))
+            } else {
+                Ok(name)
+            }
+        }
+    }
 }
