@@ -1,0 +1,45 @@
+-- Sessions by places of a bank, and what a sentence does.
+use Rattle.std.specs.Prelude.{◌≡◌, List, ℕ, [], option_map, IfSome, Result, Ok, Err}
+use Rattle.lq_terms.specs.Terms.{Terms, HasName, text_of, tree_of}
+use Rattle.lq_env.specs.Environments.{IsEnv, env_of}
+use Rattle.lq_solving.specs.Kept.{IsStore}
+use Rattle.lq_solving.specs.Claims.{ArePlainDeclarations}
+use Rattle.lq_evars.specs.Places.{store_of, HasStore}
+use Rattle.lq_states.specs.Kept.{IsProof}
+use Rattle.lq_goals.specs.Held.{proof_of}
+use Rattle.lq_kernel.specs.Closed.{IsScoped}
+use Rattle.lq_print.specs.Causes.{cause_of, HasCause}
+use Rattle.lq_causes.specs.declared.stops.Stop.{Stop}
+use Rattle.lq_sessions.specs.Sessions as trees
+use Rattle.lq_sessions.specs.Sessions.{Done, refused}
+use Rattle.lq_session.specs.declared.opened.Opened.{Opened}
+use Rattle.lq_session.specs.declared.opened.Session.{Session}
+
+-- the open proof over trees
+abbrev pub opened_of : Terms → Opened → trees.Opened
+opened_of bank o = record { name = text_of bank o.name; statement = tree_of bank o.statement; state = proof_of bank o.proof }
+
+-- a session over trees; there are no Ltac definitions yet
+abbrev pub session_of : Terms → Session → trees.Session
+session_of bank s =
+    record { env = env_of bank s.env; definitions = []; steps = s.steps; kernel = s.kernel; opened = option_map (opened_of bank) s.opened }
+
+-- the bank has an open proof, and it is one
+pub record IsOpened (bank : Terms) (o : Opened) : Type 0 where
+  pub name : HasName bank o.name
+  pub statement : IsScoped bank 0 o.statement
+  pub store : HasStore bank o.proof.store
+  pub stored : IsStore (store_of bank o.proof.store)
+  pub proof : IsProof (proof_of bank o.proof)
+
+-- the bank has a session, and it is one
+pub record IsSession (bank : Terms) (s : Session) : Type 0 where
+  pub env : IsEnv bank s.env
+  pub plain : ArePlainDeclarations (env_of bank s.env)
+  pub opened : IfSome s.opened (IsOpened bank)
+
+-- A sentence writes a text and goes on in the session, or it is refused as the stop tells. Memory may end at any time.
+abbrev pub Does : (old new : Terms) → Result (List ℕ) Stop → (before after : Session) → Done → Type 0
+Does old new (Ok t) s s1 d = d ≡ (t, Ok (session_of new s1))
+Does old new (Err (Stop.Refused c)) s s1 d = HasCause new c × (d ≡ refused (session_of old s) (cause_of new c))
+Does old new (Err Stop.NoMemory) s s1 d = Unit {0}
