@@ -13,9 +13,15 @@ pub mod FormLaws
 pub mod AgreeingLaws
 pub mod MismatchLaws
 pub mod AgreedLaws
+pub mod GlobalLaws
+pub mod MakingLaws
+pub mod NameLaws
 pub mod StateLaws
 pub mod AskLaws
 pub mod SettleLaws
+pub mod LeafLaws
+pub mod BlankLaws
+pub mod ArmLaws
 pub mod BindSteps
 pub mod ResumeLaws
 pub mod EnterLaws

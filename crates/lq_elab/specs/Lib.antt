@@ -7,6 +7,7 @@ pub mod Scopes
 pub mod Frames
 pub mod Forms
 pub mod Agreeing
+pub mod Making
 pub mod Answers
 pub mod States
 pub mod Continuing

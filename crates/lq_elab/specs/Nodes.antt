@@ -18,6 +18,10 @@ use Rattle.lq_elab.specs.Views.{head_domain, row_tree}
 use Rattle.lq_elab.specs.Waiting.{Spot, below, Waiting, waiting, product_domain, function_domain, function_rest, definition_kind, definition_value}
 use Rattle.lq_elab.specs.Waiting.{applied_function, cast_kind, found_work, asked_work, held_work}
 
+-- a new variable comes next
+abbrev pub made_next : Site → List Waiting → Elab Found → ℕ → Elab Found
+made_next e vs r n = r >>= λ z. found_work e vs z n
+
 module _ (e : Site) (vs : List Waiting) (l : Spot) (s : Store) (w : Option Tree) where
   -- the rest of a function whose domain is that of the product that is wanted
   abbrev pub bare_work : Name → (place : ℕ) → Surface → Option (Tree × Tree) → ℕ → Elab Found

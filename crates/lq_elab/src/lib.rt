@@ -4,11 +4,17 @@
 mod agreeing;
 mod asking;
 mod binding;
+mod blanks;
 mod ending;
 mod entering;
 mod finding;
 mod forms;
 mod frames;
+mod globals;
+mod heads;
+mod leaves;
+mod making;
+mod naming;
 mod scope;
 mod settling;
 mod shutting;
