@@ -27,6 +27,10 @@ pub mod ResumeLaws
 pub mod EnterLaws
 pub mod LeaveLaws
 pub mod MadeLaws
+pub mod PartLaws
+pub mod EndLaws
+pub mod DomainLaws
+pub mod StartLaws
 pub mod CallLaws
 pub mod PlainTerms
 pub mod PlainFamilies

@@ -13,3 +13,4 @@ pub mod States
 pub mod Continuing
 pub mod Entering
 pub mod Ending
+pub mod Starting

@@ -1,7 +1,7 @@
 //! What names stand for, by a map: the nearest binder, else the Ltac value, else the hypothesis.
 
-ghost use Rattle.std.specs.Prelude.{◌≡◌, Option, Some, None, IfOk, OnOk};
-ghost use Rattle.lq_trees.specs.Tree.{Name};
+ghost use Rattle.std.specs.Prelude.{◌≡◌, false, Option, Some, None, IfOk, OnOk};
+ghost use Rattle.lq_trees.specs.Tree.{Name, same_name};
 ghost use Rattle.lq_terms.specs.Terms.{Terms, HasName, text_of};
 ghost use Rattle.lq_elab.specs.Naming.{Meaning as TreeMeaning, with_meaning};
 ghost use Rattle.lq_elab.specs.Scopes.{IsScope, meaning_of, HasMeaning};
@@ -64,6 +64,24 @@ impl Scope {
             Some(meaning) => meaning,
             None => Meaning::Global,
         }
+    }
+
+    /// A name, also an empty one, stands for something else.
+    pub(crate) fn add(
+        &mut self,
+        bank: &Bank<'_>,
+        name: NameId,
+        meaning: Meaning,
+    ) -> Result<(), NoMemory>
+        requires name { HasName bank.now name }
+        requires meaning { HasMeaning bank.now meaning }
+        ensures { (old new : Name → Option TreeMeaning) → IsScope bank.now old self.old → meaning_of bank.now meaning ≡ new (text_of bank.now name)
+            → ((z : Name) → same_name (text_of bank.now name) z ≡ false → new z ≡ old z) → OnOk result (IsScope bank.now new self.new) }
+    {
+        let Ok(_) = self.meanings.insert(name, meaning) else {
+            return Err(NoMemory);
+        };
+        Ok(())
     }
 
     /// A name stands for something else, if it is a name.
