@@ -1,5 +1,6 @@
 -- What a sentence does to a session, by what its work comes to.
-use Rattle.std.proofs.Common.{◌≡◌, ◌∙◌, refl, sym, ap, subst, arith, ℕ, suc, Bool, List, Option, Some, None, Ok, Err}
+use Rattle.std.proofs.Common.{◌≡◌, ◌∙◌, refl, sym, ap, subst, arith, ℕ, suc, Bool, true, false, List, [], Option, Some, None, Result, Ok, Err}
+use Rattle.std.specs.Prelude.{is_some, not}
 use Rattle.lq_trees.specs.Ticks.{Outcome, done, ComesTo}
 use Rattle.lq_calculus.specs.Declarations.{Env as Environment}
 use Rattle.lq_terms.specs.Terms.{Terms, text_of, tree_of}
@@ -13,15 +14,19 @@ use Rattle.lq_print.specs.declared.causes.SentenceCause.{SentenceCause}
 use Rattle.lq_print.specs.declared.causes.Cause.{Cause}
 use Rattle.lq_print.specs.Causes.{cause_of}
 use Rattle.lq_sessions.specs.Sessions as trees
-use Rattle.lq_sessions.specs.Sessions.{Work, Done, refused, needs_proof, came_to, worked, with_env}
+use Rattle.lq_sessions.specs.Sessions.{Work, Done, refused, accepted, needs_proof, came_to, worked, with_env, with_opened}
 use Rattle.lq_sessions.specs.Declaring.{closed, is_defined}
+use Rattle.lq_sessions.specs.Sentences.{printed}
+use Rattle.lq_texts.specs.Views.{print_text}
+use Rattle.lq_print.specs.declared.entries.PrintFault.{PrintFault}
+use Rattle.lq_print.specs.Entries.{Prints}
 use Rattle.lq_causes.specs.declared.stops.Stop.{Stop}
 use Rattle.lq_causes.specs.Stopping.{term_outcome, outcome_of, Stops}
 use Rattle.lq_declaring.specs.Closing.{closing_work}
 use Rattle.lq_declaring.proofs.ClosingLaws.{closed_is}
 use Rattle.lq_session.specs.declared.opened.Opened.{Opened}
 use Rattle.lq_session.specs.declared.opened.Session.{Session}
-use Rattle.lq_session.specs.Sessions.{opened_of, session_of, Does}
+use Rattle.lq_session.specs.Sessions.{opened_of, session_of, Does, print_stop}
 
 -- ---- whether a proof is open
 
@@ -103,3 +108,42 @@ module _ (old new : Terms) (s s1 : Session) (o : Opened) (is : s.opened ≡ Some
 pub none_of : {A : Type 0} (o : Option A) → ((x : A) → ¬ (o ≡ Some x)) → o ≡ None
 none_of None h = refl
 none_of (Some x) h = absurd (h x refl)
+
+-- ---- what is written without work
+
+-- by the line of a name, or why it has none
+abbrev printed_by : trees.Session → Result (List ℕ) ScriptCause → Done
+printed_by s r = elim r [ Err c ↦ refused s c | Ok t ↦ (t, Ok s) ]
+
+pub prints_does : (bank : Terms) (s : Session) (x : NameId) (t : List ℕ) → print_text (env_of bank s.env) (text_of bank x) ≡ Ok t → Does bank bank (Ok t) s s (printed (session_of bank s) (text_of bank x))
+unfolding printed
+prints_does bank s x t e = ap (printed_by (session_of bank s)) e
+
+pub print_stops : (bank : Terms) (s : Session) (x : NameId) (f : PrintFault) → Prints bank (Err f) (print_text (env_of bank s.env) (text_of bank x)) →
+    Does bank bank (Err (print_stop f)) s s (printed (session_of bank s) (text_of bank x))
+unfolding printed
+print_stops bank s x (PrintFault.Unknown y) p = (p.0, ap (printed_by (session_of bank s)) p.1)
+print_stops bank s x (PrintFault.ElimForbidden y u) p = (p.0, ap (printed_by (session_of bank s)) p.1)
+print_stops bank s x PrintFault.NoMemory p = tt
+
+-- ---- a proof that is open is let go
+
+some_of : {A : Type 0} (o : Option A) (b : Bool) → is_some o ≡ not b → b ≡ false → (x : A) × (o ≡ Some x)
+some_of None true e f = grind arith
+some_of None false e f = grind arith
+some_of (Some x) b e f = (x, refl)
+
+pub missing : {A : Type 0} (o : Option A) (b : Bool) → is_some o ≡ not b → b ≡ true → o ≡ None
+missing None b e f = refl
+missing (Some x) true e f = grind arith
+missing (Some x) false e f = grind arith
+
+pub begins_does : (bank : Terms) (s : Session) (t : List ℕ) (b : Bool) → is_some s.opened ≡ not b → b ≡ false → t ≡ [] → Does bank bank (Ok t) s s (needs_proof (session_of bank s) (λ o. accepted (session_of bank s)))
+begins_does bank s t b i h e =
+    let p = some_of s.opened b i h in with_proof bank s (λ o. accepted (session_of bank s)) p.0 p.1 ∙ ap (λ z. (z, Ok (session_of bank s))) (sym e)
+
+pub aborts_does : (bank : Terms) (s s1 : Session) (t : List ℕ) (b : Bool) → is_some s.opened ≡ not b → b ≡ false → t ≡ [] → s1 ≡ record { env = s.env; steps = s.steps; kernel = s.kernel; opened = None } →
+    Does bank bank (Ok t) s s1 (needs_proof (session_of bank s) (λ o. accepted (with_opened (session_of bank s) None)))
+aborts_does bank s s1 t b i h e made =
+    let p = some_of s.opened b i h in
+    with_proof bank s (λ o. accepted (with_opened (session_of bank s) None)) p.0 p.1 ∙ ap (λ z. (z, Ok (with_opened (session_of bank s) None))) (sym e) ∙ ap (λ z. (t, Ok (session_of bank z))) (sym made)

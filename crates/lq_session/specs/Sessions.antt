@@ -8,6 +8,10 @@ use Rattle.lq_evars.specs.Places.{store_of, HasStore}
 use Rattle.lq_states.specs.Kept.{IsProof}
 use Rattle.lq_goals.specs.Held.{proof_of}
 use Rattle.lq_kernel.specs.Closed.{IsScoped}
+use Rattle.lq_print.specs.declared.entries.PrintFault.{PrintFault}
+use Rattle.lq_print.specs.declared.causes.TermCause.{TermCause}
+use Rattle.lq_print.specs.declared.causes.DeclarationCause.{DeclarationCause}
+use Rattle.lq_print.specs.declared.causes.Cause.{Cause}
 use Rattle.lq_print.specs.Causes.{cause_of, HasCause}
 use Rattle.lq_causes.specs.declared.stops.Stop.{Stop}
 use Rattle.lq_sessions.specs.Sessions as trees
@@ -43,3 +47,9 @@ abbrev pub Does : (old new : Terms) → Result (List ℕ) Stop → (before after
 Does old new (Ok t) s s1 d = d ≡ (t, Ok (session_of new s1))
 Does old new (Err (Stop.Refused c)) s s1 d = HasCause new c × (d ≡ refused (session_of old s) (cause_of new c))
 Does old new (Err Stop.NoMemory) s s1 d = Unit {0}
+
+-- why a name has no line, as what stops a sentence
+abbrev pub print_stop : PrintFault → Stop
+print_stop (PrintFault.Unknown x) = Stop.Refused (Cause.Term (TermCause.Unknown x))
+print_stop (PrintFault.ElimForbidden x u) = Stop.Refused (Cause.Declaration (DeclarationCause.ElimForbidden x u))
+print_stop PrintFault.NoMemory = Stop.NoMemory
