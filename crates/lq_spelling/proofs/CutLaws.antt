@@ -17,7 +17,7 @@ use Rattle.lq_grammar.proofs.Turns.{gathered-suc, after_found, begun-suc, begun_
 use Rattle.lq_grammar.proofs.SpanLaws.{Spreads, next_spreads}
 use Rattle.lq_lex.specs.Views.{IsSpanned}
 use Rattle.lq_sentences.specs.Reading.{is_closed_behind, is_too_long}
-use Rattle.lq_spelling.specs.Spellings.{Spells, IsReadable, IsCut}
+use Rattle.lq_spelling.specs.Spellings.{Spells, IsReadable, IsCutOff, IsCut}
 use Rattle.lq_spelling.proofs.SpellingLaws.{IsText, IsRead, window_text, text_cells}
 use Rattle.lq_spelling.proofs.StringLaws.{found_reads}
 
@@ -40,10 +40,6 @@ all_rest P t ts f k d h = f (suc k) d (omega arith)
 
 abbrev Fits : List ℕ → Token → Type 0
 Fits text t = Spells t.kind (spelled text t)
-
--- the first token of a sentence, given alone up to the byte behind the bound
-abbrev IsCutOff : List Token → Type 0
-IsCutOff ts = (k : TokenKind) × (start : ℕ) × (ts ≡ record { kind = k; start = start; end = start + longest + 1 } ∷ [])
 
 -- the tokens of a sentence have the bytes of their kinds, but for one that is cut off
 abbrev Reads : List ℕ → Result Next LexFault → Type 0
@@ -141,30 +137,29 @@ fit_by text at stop ts s e (inr c) =
     subst (All (Fits text)) (sym c.2)
     (all_more (Fits text) t [] (cut_off_fits text c.0 c.1 (omega (arith, spread.0.2, spread.2)) (ap (is_too_long text) (sym c.2) ∙ e) (spelled text t)) (all_none (Fits text)))
 
--- the tokens of a text's next sentence, where it is not too long, stand in the text and have the bytes of their kinds
-pub cut_readable : (text : List ℕ) (ts : List Token) → IsCut text ts → is_too_long text ts ≡ false → All (IsReadable text) ts
-cut_readable text ts cut e = by (nat_le cut.from (length text)) refl
+-- the tokens of a text's next sentence are cut
+pub next_cut : (text : List ℕ) (from stop : ℕ) (ts : List Token) → next text from ≡ Ok (sentence ts stop) → IsCut text ts
+next_cut text from stop ts e = by (nat_le from (length text)) refl
   where
-    reads : All (Fits text) ts ⊎ IsCutOff ts
-    reads = subst (Reads text) cut.next_is (next_reads text cut.from)
-
-    by : (b : Bool) → nat_le cut.from (length text) ≡ b → All (IsReadable text) ts
+    by : (b : Bool) → nat_le from (length text) ≡ b → IsCut text ts
     by true i =
-        let spread : IsSpread cut.from (length text) ts cut.stop = subst (Spreads cut.from (length text)) cut.next_is (next_spreads text cut.from (omega (arith, leb-true cut.from (length text) i))) in
-        readable text cut.from cut.stop ts spread.2 spread.0 (fit_by text cut.from cut.stop ts spread e reads)
-    by false i = absurd (finished_is ts cut.stop (sym (none_beyond text cut.from (omega (arith, leb-false cut.from (length text) i))) ∙ cut.next_is))
+        record {
+          from = from;
+          stop = stop;
+          spread = subst (Spreads from (length text)) e (next_spreads text from (omega (arith, leb-true from (length text) i)));
+          reads = subst (Reads text) e (next_reads text from);
+        }
+    by false i = absurd (finished_is ts stop (sym (none_beyond text from (omega (arith, leb-false from (length text) i))) ∙ e))
+
+-- where the sentence of such tokens is not too long, they stand in the text and have the bytes of their kinds
+pub cut_readable : (text : List ℕ) (ts : List Token) → IsCut text ts → is_too_long text ts ≡ false → All (IsReadable text) ts
+cut_readable text ts cut e = readable text cut.from cut.stop ts cut.spread.2 cut.spread.0 (fit_by text cut.from cut.stop ts cut.spread e cut.reads)
 
 spanned : (text : List ℕ) (at stop : ℕ) (ts : List Token) → stop ≤ length text → AreSpans at ts stop → All (IsSpanned text) ts
 spanned text at stop [] h s = all_none (IsSpanned text)
 spanned text at stop (t ∷ ts) h s =
     all_more (IsSpanned text) t ts (omega (arith, s.1), omega (arith, h, spans_fit t.end stop ts s.2)) (spanned text t.end stop ts h s.2)
 
--- all tokens of a text's next sentence stand in the text
+-- all such tokens stand in the text
 pub cut_spanned : (text : List ℕ) (ts : List Token) → IsCut text ts → All (IsSpanned text) ts
-cut_spanned text ts cut = by (nat_le cut.from (length text)) refl
-  where
-    by : (b : Bool) → nat_le cut.from (length text) ≡ b → All (IsSpanned text) ts
-    by true i =
-        let spread : IsSpread cut.from (length text) ts cut.stop = subst (Spreads cut.from (length text)) cut.next_is (next_spreads text cut.from (omega (arith, leb-true cut.from (length text) i))) in
-        spanned text cut.from cut.stop ts spread.2 spread.0
-    by false i = absurd (finished_is ts cut.stop (sym (none_beyond text cut.from (omega (arith, leb-false cut.from (length text) i))) ∙ cut.next_is))
+cut_spanned text ts cut = spanned text cut.from cut.stop ts cut.spread.2 cut.spread.0

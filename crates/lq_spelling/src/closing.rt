@@ -29,7 +29,7 @@ fn has_brace(tokens: &[Token]) -> bool
 
 /// Whether the last of some tokens ends their sentence.
 #[tactic(auto, using(crate::proofs::WordLaws::closed_is, crate::proofs::WordLaws::closed_none))]
-fn is_closed(text: &[u8], tokens: &[Token]) -> bool
+pub fn is_closed(text: &[u8], tokens: &[Token]) -> bool
     requires { All (IsSpanned text.now) tokens.now }
     ensures { result ≡ is_closed_behind text.now [] tokens.now }
 {
@@ -56,7 +56,7 @@ fn goes_on(text: &[u8], start: usize) -> bool
     start <= text.len() && LONGEST <= text.len() - start
 }
 
-/// Whether a text goes on for too long without an end of the sentence of these tokens, which are those of its next sentence.
+/// Whether a text goes on for too long without an end of the sentence of these tokens, which are cut from it.
 pub fn is_too_long(text: &[u8], tokens: &[Token]) -> bool
     requires { IsCut text.now tokens.now }
     ensures { result ≡ is_too_long text.now tokens.now }

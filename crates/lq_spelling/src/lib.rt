@@ -4,5 +4,5 @@
 mod closing;
 mod spelling;
 
-pub use closing::{is_too_long, sentence_start};
+pub use closing::{is_closed, is_too_long, sentence_start};
 pub use spelling::words;

@@ -8,14 +8,14 @@ use Rattle.lq_sentences.specs.Words.{words}
 use Rattle.lq_sentences.specs.Reading.{start_of, is_too_long, with_faults, sentence, read_sentence}
 use Rattle.lq_sentences.proofs.RuleLaws.{chosen_true, chosen_false}
 use Rattle.lq_sentences.proofs.PlaceLaws.{Rising}
-use Rattle.lq_sentences.proofs.RisingLaws.{next_rises}
+use Rattle.lq_sentences.proofs.RisingLaws.{spans_rise}
 use Rattle.lq_sentences.proofs.FaultPlaces.{fault_placed}
 use Rattle.lq_spelling.specs.Spellings.{IsCut}
 use Rattle.lq_syntax.specs.Answers.{Answers, IsFaultPlaced}
 
--- the words of tokens that were cut have rising places
+-- the words of tokens that are cut have rising places
 pub cut_rises : (text : List ℕ) (ts : List Token) → IsCut text ts → Rising (words text ts)
-cut_rises text ts c = next_rises text c.from c.stop ts c.next_is
+cut_rises text ts c = spans_rise text c.from c.stop ts c.spread.0
 
 -- ---- by the definition
 

@@ -54,7 +54,8 @@ fn sentence_of(alloc: Global, text: &[u8], tokens: &[Token]) -> Result<Sentence,
     sentence_or_fault(alloc, &found, text.len())
 }
 
-/// The syntax tree of a sentence, of which `tokens` are the tokens that `cut` gave on this text.
+/// The syntax tree of a sentence, of which `tokens` are the tokens: those that `cut` gave on this text, or those that can be looked at of a
+/// text that goes on.
 ///
 /// The tree is the one that the grammar has for these tokens (Rocq reference manual: "Ltac", "Proof mode", "Inductive types").
 /// Places count in bytes from the start of the text. Brackets have no node.

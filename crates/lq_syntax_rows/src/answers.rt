@@ -6,6 +6,9 @@ use lq_row_texts::{RowFault, text_of};
 use lq_syntax::{Sentence, SyntaxFault, read_sentence};
 use std::alloc::Global;
 
+/// The word of a text that is read and dropped on the stack of another thread.
+pub(crate) const APART: &str = "apart";
+
 /// What is next in a text.
 #[derive(Drop)]
 enum Next {
@@ -74,7 +77,7 @@ pub(crate) fn told(alloc: Global, line: &str) -> Result<String, RowFault> {
     };
     let text = text_of(alloc, text)?;
     match word {
-        "read" => first(alloc, &text),
+        "read" | APART => first(alloc, &text),
         "all" => counted(alloc, &text),
         _ => Err(RowFault::Malformed),
     }
