@@ -1,15 +1,14 @@
 -- What was found against what is wanted, in a bank that has grown, and the store that unification leaves.
-use Rattle.std.proofs.Common.{◌≡◌, ◌≤◌, ◌∙◌, ℕ, refl, sym, ap, ap₂, arith, List, [], ◌∷◌, ◌++◌, length, Option, None, Some, Result, Ok, Err}
+use Rattle.std.proofs.Common.{◌≡◌, ◌≤◌, ◌∙◌, ℕ, refl, sym, ap, ap₂, arith, List, [], ◌∷◌, length, Some, Result, Ok, Err}
 use Rattle.std.proofs.Common.{subst as along}
-use Rattle.std.specs.Prelude.{option_map}
-use Rattle.lq_trees.specs.Tree.{Name, Tree, Context}
+use Rattle.lq_trees.specs.Tree.{Tree}
 use Rattle.lq_trees.specs.Ticks.{done, ComesTo}
 use Rattle.lq_terms.specs.declared.nodes.Hypothesis.{Hypothesis}
 use Rattle.lq_terms.specs.declared.nodes.TermId.{TermId}
 use Rattle.lq_terms.specs.Terms.{Terms, HasTerm, Grows, tree_of}
 use Rattle.lq_terms.specs.Contexts.{HasContext, context_of}
 use Rattle.lq_terms.proofs.Tellings.{context_of-grown}
-use Rattle.lq_solving.specs.Stores.{Store, Assigned, read, count, names_at, with_value}
+use Rattle.lq_solving.specs.Stores.{Store, read, count, names_at, with_value}
 use Rattle.lq_solving.specs.Kept.{IsOver, IsContext, IsStore, StandsIn}
 use Rattle.lq_solving.specs.ElabFaults.{elab_fitting}
 use Rattle.lq_solving.specs.Elaboration.{Site, found, unified, against}
@@ -19,7 +18,6 @@ use Rattle.lq_solving.proofs.Later.{Later, now, given_later, later_store, later_
 use Rattle.lq_evars.specs.Places.{Places, store_of, HasStore}
 use Rattle.lq_evars.proofs.Growing.{store_of-grown}
 use Rattle.lq_typing.specs.declared.faults.ElabFault.{ElabFault}
-use Rattle.lq_typing.specs.Refusals.{Refuses}
 use Rattle.lq_elab.specs.Answers.{Comes}
 use Rattle.lq_elab.proofs.AgreeingLaws.{some_agrees, some_refuses}
 use Rattle.lq_elab.proofs.AnswerLaws.{comes_as}

@@ -1,36 +1,34 @@
 -- What was found against what is wanted, by the calls of reading and of unification.
-use Rattle.std.proofs.Common.{◌≡◌, ◌<◌, ◌+◌, ◌^◌, ◌∙◌, ℕ, suc, refl, sym, ap, arith, Bool, true, false, List, [], ◌∷◌, length, Option, None, Some, Result, Ok}
+use Rattle.std.proofs.Common.{◌≡◌, ◌<◌, ◌^◌, ◌∙◌, ℕ, refl, sym, ap, arith, List, [], ◌∷◌, length, Option, None, Some, Result, Ok}
 use Rattle.std.proofs.Common.{Err}
 use Rattle.std.proofs.Common.{subst as along}
 use Rattle.lq_trees.specs.declared.Fit.{Fit}
-use Rattle.lq_trees.specs.Tree.{Name, Tree, Context}
+use Rattle.lq_trees.specs.Tree.{Tree, Context}
 use Rattle.lq_trees.specs.Size.{fit}
-use Rattle.lq_trees.specs.Rules.{Rules}
-use Rattle.lq_trees.specs.Ticks.{gives, fails, ◌>>=◌, done, failed, steps_out, faults_as, within, ComesTo}
+use Rattle.lq_trees.specs.Ticks.{gives, fails, ◌>>=◌, done, failed, steps_out, within, ComesTo}
 use Rattle.lq_trees.proofs.Outcomes.{comes_then, comes_gives, comes_fails}
 use Rattle.lq_calculus.specs.Declarations.{Env as Environment, rules_of}
 use Rattle.lq_terms.specs.declared.nodes.NameId.{NameId}
 use Rattle.lq_terms.specs.declared.nodes.TermId.{TermId}
-use Rattle.lq_terms.specs.Terms.{Terms, HasName, HasTerm, Grows, tree_of}
-use Rattle.lq_terms.specs.Telling.{Tells, HasTelling}
+use Rattle.lq_terms.specs.Terms.{Terms, HasName, tree_of}
+use Rattle.lq_terms.specs.Telling.{Tells}
 use Rattle.lq_env.specs.declared.environment.Declared.{Declared}
 use Rattle.lq_env.specs.Environments.{IsEnv, IsOwn, env_of, telling}
 use Rattle.lq_env.proofs.Grown.{env_of-grown, IsEnv-grown}
 use Rattle.lq_kernel.proofs.Told.{own}
 use Rattle.lq_solving.specs.Stores.{Store, StoreFault as TreeFault, read_too_large, read_too_deep, read, read_fitting, size_fault}
 use Rattle.lq_solving.specs.Kept.{IsContext, IsStore, StandsIn}
-use Rattle.lq_solving.specs.Claims.{ArePlainRules, ArePlainDeclarations}
+use Rattle.lq_solving.specs.Claims.{ArePlainDeclarations}
 use Rattle.lq_solving.proofs.ElabKept.{Grown}
 use Rattle.lq_solving.specs.ElabFaults.{ElabFault as Fault, Elab, elab_fitting, elab_too_large, elab_too_deep, carrying, found_wanted, by_unify}
 use Rattle.lq_solving.specs.ElabFaults as e
 use Rattle.lq_solving.specs.Unification.{UnifyFault as TreeUnifyFault, Unify, Answer, unify, unify_too_large, unify_too_deep}
-use Rattle.lq_solving.specs.Elaboration.{Site, Found, found, unified, against}
+use Rattle.lq_solving.specs.Elaboration.{Site, found, unified, against}
 use Rattle.lq_solving.proofs.ElabSettled.{at}
 use Rattle.lq_evars.specs.declared.store.StoreFault.{StoreFault}
-use Rattle.lq_evars.specs.Places.{Places, store_of}
 use Rattle.lq_evars.specs.Reading.{Answers}
 use Rattle.lq_unify.specs.declared.faults.UnifyFault.{UnifyFault}
-use Rattle.lq_unify.specs.Telling.{TellsOn, HasRules}
+use Rattle.lq_unify.specs.Telling.{TellsOn}
 use Rattle.lq_unify.specs.Turns.{Stops}
 use Rattle.lq_unify.proofs.ReduceSteps.{outcome_as, within_faults}
 use Rattle.lq_typing.specs.declared.faults.ElabFault.{ElabFault}

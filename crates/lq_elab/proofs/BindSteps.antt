@@ -1,31 +1,25 @@
 -- Under a binder, and back from under it.
-use Rattle.std.proofs.Common.{◌≡◌, ◌<◌, ◌^◌, ◌∙◌, sym, ap, ap₂, arith, false, List, [], ◌∷◌, ◌++◌, length, Option, None, Some}
+use Rattle.std.proofs.Common.{◌≡◌, ◌<◌, ◌^◌, sym, arith, false, List, length, Option}
 use Rattle.std.proofs.Common.{subst as along}
 use Rattle.std.proofs.lemmas.List.{length-map}
-use Rattle.lq_trees.specs.Tree.{Name, Tree, Context}
+use Rattle.lq_trees.specs.Tree.{Name}
 use Rattle.lq_trees.specs.Fresh.{is_listed, fresh}
 use Rattle.lq_terms.specs.declared.nodes.NameId.{NameId}
-use Rattle.lq_terms.specs.declared.nodes.TermId.{TermId}
 use Rattle.lq_terms.specs.declared.nodes.Hypothesis.{Hypothesis}
-use Rattle.lq_terms.specs.Terms.{Terms, HasName, HasTerm, IsName, Grows, text_of, tree_of}
-use Rattle.lq_terms.specs.Contexts.{HasContext, hypothesis_of, context_of}
-use Rattle.lq_terms.proofs.Tellings.{context_of-grown}
+use Rattle.lq_terms.specs.Terms.{Terms, text_of, tree_of}
+use Rattle.lq_terms.specs.Contexts.{hypothesis_of, context_of}
 use Rattle.lq_solving.specs.Stores.{names_in}
 use Rattle.lq_solving.proofs.FreshLaws.{fresh_new}
-use Rattle.lq_evars.specs.Places.{Places}
-use Rattle.lq_elab.specs.declared.frames.Bound.{Bound}
 use Rattle.lq_elab.specs.declared.frames.Frame.{Frame}
 use Rattle.lq_elab.specs.declared.scope.Meaning.{Meaning}
 use Rattle.lq_elab.specs.declared.sites.Site.{Site}
 use Rattle.lq_elab.specs.Naming.{variable, meaning, with_meaning, under_binder, AreBound}
 use Rattle.lq_elab.specs.Naming as tree
-use Rattle.lq_elab.specs.Scopes.{IsScope, meaning_of}
-use Rattle.lq_elab.specs.Frames.{spot_of, shorter}
-use Rattle.lq_elab.specs.States.{IsState, site_of}
+use Rattle.lq_elab.specs.Scopes.{IsScope}
+use Rattle.lq_elab.specs.Frames.{spot_of}
+use Rattle.lq_elab.specs.States.{site_of}
 use Rattle.lq_elab.proofs.NamingLaws.{meaning_under}
-use Rattle.lq_elab.proofs.FrameLaws.{shorter_last, frames_bound}
 use Rattle.lq_elab.proofs.ScopeLaws.{scope_same}
-use Rattle.lq_elab.proofs.StateLaws.{state_grown}
 
 -- the new name is no hypothesis's
 pub new_name : (old new : Terms) (hs : List Hypothesis) → length hs < 2 ^ 64 → (binder : NameId) (x : NameId) → text_of new x ≡ fresh (context_of old hs) (text_of old binder) → is_listed (names_in (context_of old hs)) (text_of new x) ≡ false

@@ -1,7 +1,6 @@
 -- New variables that are asked for.
-use Rattle.std.proofs.Common.{◌≡◌, ◌∙◌, ℕ, refl, sym, ap, ap₂, List, Option, None, Some}
+use Rattle.std.proofs.Common.{◌≡◌, ℕ, refl, sym, ap, ap₂, List, None, Some}
 use Rattle.std.proofs.Common.{subst as along}
-use Rattle.std.specs.Prelude.{option_map}
 use Rattle.lq_trees.specs.Tree.{Name, Tree, Context}
 use Rattle.lq_trees.specs.Ticks.{fails, ◌>>=◌, done, failed, ComesTo}
 use Rattle.lq_trees.proofs.Outcomes.{comes_fails}

@@ -14,16 +14,15 @@ use Rattle.lq_ast.specs.declared.surface.Surface.{Surface}
 use Rattle.lq_terms.specs.declared.nodes.NameId.{NameId}
 use Rattle.lq_terms.specs.declared.nodes.TermId.{TermId}
 use Rattle.lq_terms.specs.declared.nodes.Hypothesis.{Hypothesis}
-use Rattle.lq_terms.specs.Terms.{Terms, HasName, HasTerm, Grows, text_of, tree_of}
+use Rattle.lq_terms.specs.Terms.{Terms, HasTerm, Grows, text_of, tree_of}
 use Rattle.lq_terms.specs.Contexts.{HasBody, context_of}
-use Rattle.lq_terms.proofs.Tellings.{HasBody-grown, body-grown, context_of-grown}
+use Rattle.lq_terms.proofs.Tellings.{body-grown, context_of-grown}
 use Rattle.lq_solving.specs.Stores.{Store, names_in}
-use Rattle.lq_solving.specs.Kept.{IsStore, Stands, OptionStands, StandsIn}
-use Rattle.lq_solving.specs.ElabFaults.{Elab}
+use Rattle.lq_solving.specs.Kept.{Stands, OptionStands, StandsIn}
 use Rattle.lq_solving.specs.Elaboration.{Site as TreeSite, Found as TreeFound, found, found_sort, unified, domain_agrees, rest_wanted}
 use Rattle.lq_solving.proofs.ElabSettled.{at}
 use Rattle.lq_solving.proofs.ElabKept.{Grown}
-use Rattle.lq_solving.proofs.StandsLaws.{StandsUnder, app_stands, subst_stands}
+use Rattle.lq_solving.proofs.StandsLaws.{app_stands, subst_stands}
 use Rattle.lq_evars.specs.Places.{Places, store_of, HasStore}
 use Rattle.lq_evars.proofs.Growing.{store_of-grown}
 use Rattle.lq_elab.specs.declared.entering.Under.{Under}
@@ -42,8 +41,7 @@ use Rattle.lq_elab.specs.Frames.{pair_of, HasPair, ProductStands, spot_of, waits
 use Rattle.lq_elab.specs.Naming.{under_binder}
 use Rattle.lq_elab.specs.States.{IsState, TurnStands, site_of, turn_work}
 use Rattle.lq_elab.specs.Views.{asked_tree}
-use Rattle.lq_elab.specs.Waiting.{Waiting, waiting, function_rest, applied_argument, applied_function, kind_or, left_wanted, application_of, found_work, asked_work, held_work, Leads}
-use Rattle.lq_elab.proofs.AskLaws.{state_taken}
+use Rattle.lq_elab.specs.Waiting.{waiting, function_rest, applied_argument, applied_function, kind_or, left_wanted, application_of, found_work, asked_work, held_work, Leads}
 use Rattle.lq_elab.proofs.PartLaws.{leads_then, function_enters, last_ends, more_ends, work_there, sort_there}
 use Rattle.lq_elab.proofs.EnterLaws.{asked_same}
 use Rattle.lq_elab.proofs.FrameLaws.{spot_grown, waits_grown}

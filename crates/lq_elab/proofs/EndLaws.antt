@@ -1,29 +1,26 @@
 -- A rest was elaborated under its binder, and the whole is made of it: it stands outside the binder, and is held against what is wanted.
-use Rattle.std.proofs.Common.{◌≡◌, ◌∙◌, ℕ, refl, sym, ap, ap₂, List, [], ◌∷◌, ◌++◌, Option, None, Some}
+use Rattle.std.proofs.Common.{◌≡◌, ◌∙◌, ℕ, refl, sym, ap, ap₂, List, [], ◌∷◌, Option}
 use Rattle.std.proofs.Common.{subst as along}
 use Rattle.std.specs.Prelude.{option_map}
 use Rattle.lq_trees.specs.declared.Sort.{Sort as Universe}
-use Rattle.lq_trees.specs.Tree.{Name, Tree, Context}
-use Rattle.lq_trees.specs.Tree.Tree.{Prod, Lam, Let, App, Sort}
+use Rattle.lq_trees.specs.Tree.{Name, Tree}
+use Rattle.lq_trees.specs.Tree.Tree.{Prod, Lam, Let, Sort}
 use Rattle.lq_trees.specs.Change.{subst, close}
 use Rattle.lq_trees.specs.Ticks.{done, ComesTo}
 use Rattle.lq_calculus.specs.Typing.{product_sort}
 use Rattle.lq_terms.specs.declared.nodes.NameId.{NameId}
 use Rattle.lq_terms.specs.declared.nodes.TermId.{TermId}
 use Rattle.lq_terms.specs.declared.nodes.Hypothesis.{Hypothesis}
-use Rattle.lq_terms.specs.Terms.{Terms, HasTerm, IsTerm, Grows, text_of, tree_of}
-use Rattle.lq_terms.specs.Contexts.{context_of, hypothesis_of}
+use Rattle.lq_terms.specs.Terms.{Terms, HasTerm, Grows, text_of, tree_of}
+use Rattle.lq_terms.specs.Contexts.{context_of}
 use Rattle.lq_terms.proofs.Growth.{Grows-trans}
-use Rattle.lq_solving.specs.Stores.{Store, names_in}
-use Rattle.lq_solving.specs.Kept.{IsStore, Stands, StandsIn}
-use Rattle.lq_solving.specs.ElabFaults.{Elab}
-use Rattle.lq_solving.specs.Elaboration.{Site as TreeSite, Found as TreeFound, found, found_sort}
+use Rattle.lq_solving.specs.Stores.{names_in}
+use Rattle.lq_solving.specs.Kept.{StandsIn}
+use Rattle.lq_solving.specs.Elaboration.{found, found_sort}
 use Rattle.lq_solving.proofs.ElabSettled.{at}
 use Rattle.lq_solving.proofs.Later.{good_stands}
-use Rattle.lq_solving.proofs.StandsLaws.{StandsUnder, prod_stands, lam_stands, let_stands, subst_stands}
+use Rattle.lq_solving.proofs.StandsLaws.{prod_stands, lam_stands, let_stands, subst_stands}
 use Rattle.lq_evars.specs.Places.{Places, store_of}
-use Rattle.lq_typing.specs.declared.faults.ElabFault.{ElabFault}
-use Rattle.lq_typing.specs.Refusals.{Refuses}
 use Rattle.lq_elab.specs.declared.entering.Under.{Under}
 use Rattle.lq_elab.specs.declared.finding.Found.{Found}
 use Rattle.lq_elab.specs.declared.frames.Bound.{Bound}
@@ -33,12 +30,11 @@ use Rattle.lq_elab.specs.declared.sites.Site.{Site}
 use Rattle.lq_elab.specs.declared.turns.Turn.{Turn}
 use Rattle.lq_elab.specs.Answers.{found_of}
 use Rattle.lq_elab.specs.Ending.{IsMade}
-use Rattle.lq_elab.specs.Entering.{body_under, part_under}
+use Rattle.lq_elab.specs.Entering.{part_under}
 use Rattle.lq_elab.specs.Frames.{HasBound, shorter, spot_of, waits}
 use Rattle.lq_elab.specs.States.{IsState, TurnStands, site_of, turn_work}
-use Rattle.lq_elab.specs.Waiting.{Leads, found_work, held_work, waiting, product_rest, product_of, function_of, definition_of}
-use Rattle.lq_elab.proofs.PartLaws.{leads_then, product_ends, product_rest_refuses, function_ends, definition_ends, work_there, sort_there}
-use Rattle.lq_elab.proofs.EnterLaws.{bound_of}
+use Rattle.lq_elab.specs.Waiting.{Leads, held_work}
+use Rattle.lq_elab.proofs.PartLaws.{leads_then, product_ends, function_ends, definition_ends, work_there, sort_there}
 use Rattle.lq_elab.proofs.LeaveLaws.{has_bound, inner_context, ends, closed_inside}
 use Rattle.lq_elab.proofs.StateLaws.{state_grown, turn_grown}
 

@@ -2,25 +2,25 @@
 use Rattle.std.proofs.Common.{◌≡◌, ◌≤◌, ◌+◌, ◌∙◌, ℕ, refl, sym, ap, ap₂, arith, false, List, [], ◌∷◌, ◌++◌, Option, None, Some}
 use Rattle.std.proofs.Common.{subst as along}
 use Rattle.std.specs.Prelude.{option_map}
-use Rattle.lq_trees.specs.Tree.{Name, Tree, Context, Hypothesis as TreeHypothesis}
-use Rattle.lq_trees.specs.Fresh.{is_listed, fresh, opened}
+use Rattle.lq_trees.specs.Tree.{Name, Tree}
+use Rattle.lq_trees.specs.Fresh.{is_listed, opened}
 use Rattle.lq_ast.specs.Syntax.{Surface}
 use Rattle.lq_terms.specs.declared.nodes.NameId.{NameId}
 use Rattle.lq_terms.specs.declared.nodes.TermId.{TermId}
 use Rattle.lq_terms.specs.declared.nodes.Hypothesis.{Hypothesis}
 use Rattle.lq_terms.specs.Terms.{Terms, HasName, HasTerm, Grows, text_of, tree_of}
-use Rattle.lq_terms.specs.Contexts.{HasBody, HasAllOf, HasContext, hypothesis_of, context_of}
+use Rattle.lq_terms.specs.Contexts.{HasBody, HasAllOf, hypothesis_of, context_of}
 use Rattle.lq_terms.proofs.Growth.{Grows-trans}
 use Rattle.lq_terms.proofs.Tellings.{body-grown, context_of-grown}
 use Rattle.lq_solving.specs.Stores.{Store, names_in}
-use Rattle.lq_solving.specs.Kept.{IsStore, IsContext, Stands, OptionStands, StandsIn}
+use Rattle.lq_solving.specs.Kept.{IsContext, OptionStands, StandsIn}
 use Rattle.lq_solving.specs.ElabFaults.{Elab}
-use Rattle.lq_solving.specs.Elaboration.{Site as TreeSite, Found, against, bind}
+use Rattle.lq_solving.specs.Elaboration.{Site as TreeSite, Found, bind}
 use Rattle.lq_solving.proofs.ElabKept.{context_under}
 use Rattle.lq_solving.proofs.InferKept.{names_more}
 use Rattle.lq_solving.proofs.StoreLaws.{all_more}
-use Rattle.lq_solving.proofs.StandsLaws.{StandsUnder, open_stands}
-use Rattle.lq_evars.specs.Places.{Places, store_of, HasStore}
+use Rattle.lq_solving.proofs.StandsLaws.{open_stands}
+use Rattle.lq_evars.specs.Places.{Places, store_of}
 use Rattle.lq_evars.proofs.Growing.{store_of-grown}
 use Rattle.lq_elab.specs.declared.entering.Under.{Under}
 use Rattle.lq_elab.specs.declared.frames.Bound.{Bound}
@@ -36,7 +36,7 @@ use Rattle.lq_elab.specs.Scopes.{IsScope, meaning_of}
 use Rattle.lq_elab.specs.Views.{asked_tree}
 use Rattle.lq_elab.specs.Frames.{part_of, shorter, outside, binders_with, binders_of, spot_of, waits, HasBound, HasPart, IsBound, PartBinds, FramesHold, PartStands, AllStand, weight_of, weights}
 use Rattle.lq_elab.specs.Entering.{body_under, part_under, rest_part, spot_under, RestStands}
-use Rattle.lq_elab.specs.States.{IsState, TurnStands, site_of, turn_work, due}
+use Rattle.lq_elab.specs.States.{IsState, TurnStands, site_of, turn_work}
 use Rattle.lq_elab.proofs.GoingLaws.{leads_same}
 use Rattle.lq_elab.proofs.FrameLaws.{shorter_last, context_more, spot_grown, waits_grown}
 use Rattle.lq_elab.proofs.StateLaws.{site_of_grown, state_grown, stands_grown, wanted_grown}

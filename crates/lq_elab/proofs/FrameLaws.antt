@@ -1,23 +1,21 @@
 -- What waits, in a bank and a store that have grown, and what it tells of names.
-use Rattle.std.proofs.Common.{◌≡◌, ◌∙◌, refl, sym, ap, ap₂, arith, Bool, true, false, List, [], ◌∷◌, ◌++◌, map, Option, None, Some}
+use Rattle.std.proofs.Common.{◌≡◌, ◌∙◌, refl, sym, ap, ap₂, arith, true, List, [], ◌∷◌, ◌++◌, map, Option, None, Some}
 use Rattle.std.proofs.Common.{subst as along}
 use Rattle.std.specs.Prelude.{option_map}
 use Rattle.std.specs.List.{AllByRecursion}
 use Rattle.lq_trees.specs.declared.Sort.{Sort as Universe}
-use Rattle.lq_trees.specs.Tree.{Name, Tree, Context, Hypothesis as TreeHypothesis}
+use Rattle.lq_trees.specs.Tree.{Name, Tree, Hypothesis as TreeHypothesis}
 use Rattle.lq_trees.specs.Tree.Tree.{Prod, Sort}
 use Rattle.lq_trees.specs.Fresh.{is_listed}
-use Rattle.lq_trees.specs.Index.{Within}
-use Rattle.lq_trees.specs.Hypotheses.{HoldsOnly}
 use Rattle.lq_ast.specs.Plain.{plain}
 use Rattle.lq_terms.specs.declared.nodes.NameId.{NameId}
 use Rattle.lq_terms.specs.declared.nodes.TermId.{TermId}
 use Rattle.lq_terms.specs.declared.nodes.Hypothesis.{Hypothesis}
 use Rattle.lq_terms.specs.Terms.{Terms, HasName, HasTerm, Grows, text_of, tree_of}
-use Rattle.lq_terms.specs.Contexts.{HasBody, HasAllOf, HasContext, hypothesis_of, context_of}
-use Rattle.lq_terms.proofs.Tellings.{HasBody-grown, HasContext-grown, body-grown, context_of-grown}
+use Rattle.lq_terms.specs.Contexts.{HasAllOf, HasContext, hypothesis_of, context_of}
+use Rattle.lq_terms.proofs.Tellings.{HasBody-grown, body-grown, context_of-grown}
 use Rattle.lq_solving.specs.Stores.{Store, names_in}
-use Rattle.lq_solving.specs.Kept.{IsStore, Stands, OptionStands}
+use Rattle.lq_solving.specs.Kept.{IsStore}
 use Rattle.lq_solving.specs.Elaboration.{Site, bind}
 use Rattle.lq_solving.proofs.InferKept.{names_more}
 use Rattle.lq_solving.proofs.StandsLaws.{StandsUnder, listed_more, prod_stands, rest_stands}
@@ -28,9 +26,8 @@ use Rattle.lq_elab.specs.declared.frames.Part.{Part}
 use Rattle.lq_elab.specs.declared.frames.Frame.{Frame}
 use Rattle.lq_elab.specs.Waiting.{Spot, Waiting, waiting}
 use Rattle.lq_elab.specs.Waiting as tree
-use Rattle.lq_elab.specs.Naming.{meaning, AreBound, under_binder}
+use Rattle.lq_elab.specs.Naming.{meaning, AreBound}
 use Rattle.lq_elab.specs.Views.{asked_tree}
-use Rattle.lq_elab.specs.Scopes.{meaning_of, HasMeaning}
 use Rattle.lq_elab.specs.Frames.{pair_of, part_of, shorter, outside, binders_with, binders_of, spot_of, waits, HasBound, HasPair, HasPart, IsBound, PartBinds}
 use Rattle.lq_elab.specs.Frames.{FramesHold, ProductStands, PartStands, AllStand}
 use Rattle.lq_elab.proofs.NamingLaws.{bound_under}

@@ -1,5 +1,5 @@
 -- Names of the environment, by the kernel's calls.
-use Rattle.std.proofs.Common.{◌≡◌, ◌∙◌, ℕ, refl, sym, ap, ap₂, Bool, List, [], Option, None, Some, Result, Ok, Err, ◌⊎◌, inl, inr}
+use Rattle.std.proofs.Common.{◌≡◌, ◌∙◌, ℕ, refl, sym, ap, ap₂, Bool, List, [], None, Some, Result, Ok, Err, ◌⊎◌, inl, inr}
 use Rattle.std.proofs.Common.{subst as along}
 use Rattle.lq_trees.specs.declared.Sort.{Sort as Universe}
 use Rattle.lq_trees.specs.Tree.{Name, Tree, Context}
@@ -12,14 +12,14 @@ use Rattle.lq_calculus.specs.Checking.{Kernel, constant_kind, family_kind, ctor_
 use Rattle.lq_inference.specs.Inference.{Open, closed, infer_by}
 use Rattle.lq_terms.specs.declared.nodes.NameId.{NameId}
 use Rattle.lq_terms.specs.declared.nodes.TermId.{TermId}
-use Rattle.lq_terms.specs.Terms.{Terms, HasName, HasTerm, IsTerm, Grows, text_of, tree_of}
+use Rattle.lq_terms.specs.Terms.{Terms, HasName, IsTerm, Grows, text_of, tree_of}
 use Rattle.lq_env.specs.declared.environment.Entry.{Entry as CodeEntry}
 use Rattle.lq_env.specs.declared.family.Family.{Family as CodeFamily}
 use Rattle.lq_env.specs.Environments.{IsEntry, Looks, entry_of}
 use Rattle.lq_kernel.specs.declared.faults.KernelFault.{KernelFault}
 use Rattle.lq_kernel.specs.Steps.{Types, behind, inside_of}
 use Rattle.lq_solving.specs.Stores.{Store}
-use Rattle.lq_solving.specs.ElabFaults.{Elab, by_kernel, unknown}
+use Rattle.lq_solving.specs.ElabFaults.{by_kernel, unknown}
 use Rattle.lq_solving.specs.Elaboration.{Site, Found, found, entry_found}
 use Rattle.lq_solving.proofs.ElabSettled.{at}
 use Rattle.lq_typing.specs.declared.faults.ElabFault.{ElabFault}

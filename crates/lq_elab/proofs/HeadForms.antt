@@ -9,7 +9,7 @@ use Rattle.lq_trees.specs.Size.{fit}
 use Rattle.lq_trees.specs.Rules.{Rules}
 use Rattle.lq_trees.specs.Hypotheses.{HoldsOnly}
 use Rattle.lq_trees.specs.Reading.{Reads, ReadsContext, ReadsRules}
-use Rattle.lq_trees.specs.Ticks.{gives, fails, ◌>>=◌, done, failed, steps_out, ComesTo}
+use Rattle.lq_trees.specs.Ticks.{gives, fails, ◌>>=◌, done, failed, ComesTo}
 use Rattle.lq_trees.proofs.Outcomes.{comes_then, comes_gives, comes_fails, comes_spent}
 use Rattle.lq_calculus.specs.Contraction.{whnf, contract}
 use Rattle.lq_calculus.specs.Declarations.{Env as Environment, rules_of}

@@ -1,24 +1,23 @@
 -- What was found of a leaf stands in the context, and is held against what is wanted.
-use Rattle.std.proofs.Common.{◌≡◌, ◌<◌, ◌≤◌, ◌+◌, ◌∙◌, ℕ, suc, refl, sym, ap, ap₂, arith, true, false, List, ◌∷◌, Option, None, Some, ◌⊎◌, inl, inr, Result, Ok, Err, OnOk}
+use Rattle.std.proofs.Common.{◌≡◌, ◌≤◌, ◌∙◌, ℕ, suc, refl, sym, ap, ap₂, arith, true, false, List, Option, ◌⊎◌, inl, inr, Result, Ok, Err, OnOk}
 use Rattle.std.proofs.Common.{subst as along}
 use Rattle.std.specs.Prelude.{option_map}
 use Rattle.std.proofs.lemmas.Bool.{le-ltb}
 use Rattle.lq_trees.specs.declared.Sort.{Sort as Universe}
-use Rattle.lq_trees.specs.Tree.{Name, Tree, Context}
+use Rattle.lq_trees.specs.Tree.{Name, Tree}
 use Rattle.lq_trees.specs.Tree.Tree.{Sort}
 use Rattle.lq_trees.specs.Ticks.{gives, fails, faults_as, ◌>>=◌, done, failed, ComesTo}
 use Rattle.lq_trees.proofs.Outcomes.{comes_gives, comes_fails}
-use Rattle.lq_calculus.specs.Checking.{Kernel, KernelFault, sort_above, no_sort_above}
+use Rattle.lq_calculus.specs.Checking.{Kernel, sort_above, no_sort_above}
 use Rattle.lq_calculus.proofs.ConvSound.{Gives, done_gives}
 use Rattle.lq_terms.specs.declared.nodes.NameId.{NameId}
 use Rattle.lq_terms.specs.declared.nodes.TermId.{TermId}
 use Rattle.lq_terms.specs.declared.nodes.Hypothesis.{Hypothesis}
-use Rattle.lq_terms.specs.Terms.{Terms, HasTerm, Grows, tree_of}
+use Rattle.lq_terms.specs.Terms.{Terms, Grows, tree_of}
 use Rattle.lq_terms.specs.Contexts.{HasBody, context_of}
 use Rattle.lq_terms.proofs.Tellings.{body-grown, context_of-grown}
-use Rattle.lq_solving.specs.Claims.{IsPlain}
 use Rattle.lq_solving.specs.Stores.{Store, names_in}
-use Rattle.lq_solving.specs.Kept.{Stands, StandsIn}
+use Rattle.lq_solving.specs.Kept.{StandsIn}
 use Rattle.lq_solving.specs.ElabFaults.{Elab, by_kernel, kernel_fault, nothing_above}
 use Rattle.lq_solving.specs.Elaboration.{Site as TreeSite, Found, found, name_found}
 use Rattle.lq_solving.proofs.ElabSettled.{at}
@@ -34,14 +33,14 @@ use Rattle.lq_elab.specs.declared.frames.Frame.{Frame}
 use Rattle.lq_elab.specs.declared.scope.Meaning.{Meaning}
 use Rattle.lq_elab.specs.declared.sites.Site.{Site}
 use Rattle.lq_elab.specs.declared.turns.Turn.{Turn}
-use Rattle.lq_elab.specs.Waiting.{Waiting, Spot, Leads, found_work, held_work}
+use Rattle.lq_elab.specs.Waiting.{Waiting, Spot, Leads, held_work}
 use Rattle.lq_elab.specs.Nodes.{held_leaf, sort_found}
 use Rattle.lq_elab.specs.Frames.{spot_of, waits}
 use Rattle.lq_elab.specs.States.{IsState, site_of}
 use Rattle.lq_elab.proofs.CallLaws.{site_at}
 use Rattle.lq_elab.proofs.FrameLaws.{waits_grown, frames_inside}
 use Rattle.lq_elab.proofs.GoingLaws.{leads_same, leads_done, leads_failed}
-use Rattle.lq_elab.proofs.StateLaws.{site_of_grown, stands_grown}
+use Rattle.lq_elab.proofs.StateLaws.{site_of_grown}
 
 module _ (bank : Terms) (c : Site) (s : Places) (hs : List Hypothesis) (scope : List (NameId × Meaning)) (fs : List Frame) (h : IsState bank c s hs scope fs) where
   -- the site of the definition's laws

@@ -8,10 +8,10 @@ use Rattle.lq_trees.specs.Fresh.{is_listed}
 use Rattle.lq_terms.specs.declared.nodes.NameId.{NameId}
 use Rattle.lq_terms.specs.declared.nodes.TermId.{TermId}
 use Rattle.lq_terms.specs.declared.nodes.Hypothesis.{Hypothesis}
-use Rattle.lq_terms.specs.Terms.{Terms, HasTerm, Grows, text_of, tree_of}
-use Rattle.lq_terms.specs.Contexts.{HasBody, HasAllOf, HasContext, hypothesis_of, context_of}
+use Rattle.lq_terms.specs.Terms.{Terms, text_of, tree_of}
+use Rattle.lq_terms.specs.Contexts.{HasBody, HasAllOf, hypothesis_of, context_of}
 use Rattle.lq_solving.specs.Stores.{Store, names_in}
-use Rattle.lq_solving.specs.Kept.{IsStore, IsContext, Stands, OptionStands, StandsIn, StandBehind}
+use Rattle.lq_solving.specs.Kept.{IsContext, Stands, OptionStands, StandsIn, StandBehind}
 use Rattle.lq_solving.specs.ElabFaults.{Elab}
 use Rattle.lq_solving.specs.Elaboration.{Found as TreeFound}
 use Rattle.lq_solving.proofs.ElabKept.{Grown}
@@ -28,12 +28,11 @@ use Rattle.lq_elab.specs.declared.frames.Frame.{Frame}
 use Rattle.lq_elab.specs.declared.scope.Meaning.{Meaning}
 use Rattle.lq_elab.specs.declared.sites.Site.{Site}
 use Rattle.lq_elab.specs.declared.turns.Turn.{Turn}
-use Rattle.lq_elab.specs.Waiting.{Spot, waiting}
 use Rattle.lq_elab.specs.Naming.{meaning, under_binder, AreBound}
-use Rattle.lq_elab.specs.Scopes.{IsScope, meaning_of}
-use Rattle.lq_elab.specs.Frames.{part_of, shorter, outside, binders_of, spot_of, waits, HasBound, IsBound, FramesHold, AllStand, weights}
+use Rattle.lq_elab.specs.Scopes.{IsScope}
+use Rattle.lq_elab.specs.Frames.{shorter, binders_of, spot_of, waits, HasBound, IsBound, FramesHold, AllStand, weights}
 use Rattle.lq_elab.specs.Entering.{body_under, part_under}
-use Rattle.lq_elab.specs.Continuing.{IsNext, Continues}
+use Rattle.lq_elab.specs.Continuing.{Continues}
 use Rattle.lq_elab.specs.States.{IsState, TurnStands, Goes, site_of, due}
 use Rattle.lq_elab.proofs.FrameLaws.{shorter_all, bound_context, frames_bound}
 use Rattle.lq_elab.proofs.EnterLaws.{outside_under, binders_under, bound_of, is_bound_of}

@@ -22,6 +22,7 @@ pub mod SettleLaws
 pub mod LeafLaws
 pub mod BlankLaws
 pub mod ArmLaws
+pub mod FunctionLaws
 pub mod BindSteps
 pub mod ResumeLaws
 pub mod EnterLaws
@@ -31,6 +32,7 @@ pub mod PartLaws
 pub mod EndLaws
 pub mod DomainLaws
 pub mod StartLaws
+pub mod RunLaws
 pub mod CallLaws
 pub mod PlainTerms
 pub mod PlainFamilies

@@ -5,9 +5,9 @@ use Rattle.std.proofs.Common.{subst as along}
 use Rattle.std.specs.Prelude.{option_map}
 use Rattle.std.specs.List.{AllByRecursion}
 use Rattle.std.proofs.lemmas.List.{take_more, take_all}
-use Rattle.lq_trees.specs.Tree.{Name, Tree, Trees, Context, Hypothesis as TreeHypothesis, none, more}
+use Rattle.lq_trees.specs.Tree.{Name, Tree, Context, Hypothesis as TreeHypothesis, more}
 use Rattle.lq_trees.specs.Tree.Tree.{Var, Evar}
-use Rattle.lq_trees.specs.Ticks.{gives, fails, ◌>>=◌, done, failed, ComesTo}
+use Rattle.lq_trees.specs.Ticks.{gives, fails, ◌>>=◌, done, ComesTo}
 use Rattle.lq_trees.proofs.Outcomes.{comes_gives, comes_fails}
 use Rattle.lq_calculus.specs.Declarations.{variables}
 use Rattle.lq_calculus.proofs.ConvSound.{done_gives}
@@ -17,17 +17,17 @@ use Rattle.lq_terms.specs.declared.nodes.TermId.{TermId}
 use Rattle.lq_terms.specs.Terms.{Terms, HasName, HasTerm, IsTerm, AreTerms, Grows, text_of, tree_of, trees_by}
 use Rattle.lq_terms.specs.Contexts.{HasContext, hypothesis_of, context_of}
 use Rattle.lq_terms.proofs.Growth.{Grows-refl, Grows-trans}
-use Rattle.lq_solving.specs.Stores.{Variable as TreeVariable, Store, StoreFault as TreeFault, instance_list, own_instance, new_variable, store_full, names_in}
+use Rattle.lq_solving.specs.Stores.{Variable as TreeVariable, Store, instance_list, own_instance, new_variable, store_full, names_in}
 use Rattle.lq_solving.specs.Stores.{named_variable}
 use Rattle.lq_solving.specs.Kept.{IsContext, IsStore, Stands}
-use Rattle.lq_solving.specs.ElabFaults.{Elab, by_store, store_fault, full}
+use Rattle.lq_solving.specs.ElabFaults.{by_store, store_fault, full}
 use Rattle.lq_solving.specs.Elaboration.{Found, found, made}
 use Rattle.lq_solving.proofs.ElabKept.{Grown, made_grown}
 use Rattle.lq_solving.proofs.StoreLaws.{all_more}
 use Rattle.lq_evars.specs.declared.store.StoreFault.{StoreFault}
 use Rattle.lq_evars.specs.declared.store.Variable.{Variable}
 use Rattle.lq_evars.specs.Places.{Places, store_of, variable_of, HasVariable, HasStore, HasNameOr, Makes, one_more, IsOwn, IsOwnOr, IsNewName}
-use Rattle.lq_evars.proofs.Growing.{store_of-grown, HasStore-grown}
+use Rattle.lq_evars.proofs.Growing.{store_of-grown}
 use Rattle.lq_evars.proofs.Lookups.{numbers_told}
 use Rattle.lq_typing.specs.declared.faults.ElabFault.{ElabFault}
 use Rattle.lq_elab.specs.declared.finding.Found.{Found as CodeFound}

@@ -1,5 +1,5 @@
 -- The fault of types that do not unify, and what was found against what is wanted, by the calls.
-use Rattle.std.proofs.Common.{◌≡◌, ◌∙◌, ℕ, sym, ap, ap₂, arith, [], ◌∷◌, Ok, Err}
+use Rattle.std.proofs.Common.{◌≡◌, ◌∙◌, ℕ, sym, ap₂, arith, [], ◌∷◌}
 use Rattle.std.proofs.Common.{subst as along}
 use Rattle.lq_trees.specs.Tree.{Tree}
 use Rattle.lq_trees.specs.Ticks.{done, failed, ComesTo}

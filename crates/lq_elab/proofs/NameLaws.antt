@@ -1,11 +1,10 @@
 -- What names stand for, as elaboration finds them.
-use Rattle.std.proofs.Common.{◌≡◌, ◌<◌, ◌≤◌, ◌-◌, ◌+◌, ◌∙◌, ℕ, zero, suc, refl, sym, ap, ap₂, arith, Bool, true, false, ◌&&◌, ◌||◌, List, [], ◌∷◌, length, get_or, drop, Option, None, Some, Result, Ok, Err, IfOk}
+use Rattle.std.proofs.Common.{◌≡◌, ◌<◌, ◌≤◌, ◌-◌, ◌+◌, ◌∙◌, ℕ, zero, suc, refl, sym, ap, arith, Bool, true, false, ◌&&◌, ◌||◌, List, [], ◌∷◌, length, get_or, drop, Option, None, Some, Result, Ok, Err, IfOk}
 use Rattle.std.proofs.Common.{subst as along}
 use Rattle.std.specs.Prelude.{not, eqb, ◌==◌, if◌then◌else◌}
-use Rattle.std.specs.List.{AllByRecursion}
 use Rattle.std.proofs.lemmas.List.{drop_more, drop_all}
 use Rattle.indexmap.specs.IndexMap.{insert_entry}
-use Rattle.lq_trees.specs.Tree.{Name, Tree, Trees, Context, Hypothesis as TreeHypothesis, none, more, same_name, value_of}
+use Rattle.lq_trees.specs.Tree.{Name, Tree, Trees, Hypothesis as TreeHypothesis, none, more, same_name, value_of}
 use Rattle.lq_trees.specs.Tree.Tree.{Rel, Var, Sort, Prod, Lam, Let, App, Const, Ind, Ctor, Elim, Evar}
 use Rattle.lq_trees.specs.Fresh.{is_listed}
 use Rattle.lq_trees.specs.Hypotheses.{HoldsOnly, EachHoldsOnly}

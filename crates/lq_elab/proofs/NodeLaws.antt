@@ -1,14 +1,14 @@
 -- A node of a term pays a tick, and then what is left of it goes on.
-use Rattle.std.proofs.Common.{◌≡◌, ◌+◌, ◌∙◌, ℕ, suc, refl, sym, ap, Bool, true, false, List, [], ◌∷◌, length, map, Option, None, Some}
+use Rattle.std.proofs.Common.{◌≡◌, ◌<◌, ◌+◌, ◌∙◌, ℕ, suc, refl, sym, ap, Bool, true, false, List, length, map, Option, None, Some}
 use Rattle.std.proofs.lemmas.List.{length-map}
 use Rattle.lq_trees.specs.declared.Sort.{Sort as Universe}
 use Rattle.lq_trees.specs.Tree.{Name, Tree}
 use Rattle.lq_trees.specs.Tree.Tree.{Sort}
-use Rattle.lq_trees.specs.Ticks.{gives, fails, tick, faults_as, ◌>>=◌}
+use Rattle.lq_trees.specs.Ticks.{gives, fails, tick, faults_as, ◌>>=◌, steps_out, ComesTo}
 use Rattle.lq_trees.specs.Fresh.{fresh, opened, under}
 use Rattle.lq_trees.proofs.TickLaws.{bind_bind}
 use Rattle.lq_calculus.specs.Checking.{sort_above}
-use Rattle.lq_ast.specs.Syntax.{Surface, Domain, Forall, Fun, LetIn, Arrow, Ident, Blank, PropSort, TypeSort, Cast, Meta, NewVar, Written, Missing, applied}
+use Rattle.lq_ast.specs.Syntax.{Surface, Domain, Fun, LetIn, Ident, Blank, PropSort, TypeSort, Meta, NewVar, Written, Missing}
 use Rattle.lq_ast.specs.Plain.{plain, plain_domain, name_of}
 use Rattle.lq_solving.specs.Stores.{Store}
 use Rattle.lq_solving.specs.ElabFaults.{Elab, by_kernel, cannot_infer, unknown}
@@ -19,7 +19,7 @@ use Rattle.lq_elab.specs.Arguments.{ticks}
 use Rattle.lq_elab.specs.Views.{row_node, head_domain, row_tree, view_tree}
 use Rattle.lq_elab.specs.Waiting.{Spot, Waiting, go_on, resumed, function_of, found_work, asked_work, held_work, Leads}
 use Rattle.lq_elab.specs.Nodes.{bare_work, head_work, definition_work, held_leaf, sort_found, node_work}
-use Rattle.lq_elab.proofs.GoingLaws.{same_then, leads_same, leads_paid, product_asked, bare_product_asked, arrow_asked, function_asked, definition_asked}
+use Rattle.lq_elab.proofs.GoingLaws.{same_then, leads_same, leads_paid, leads_lacks, product_asked, bare_product_asked, arrow_asked, function_asked, definition_asked}
 use Rattle.lq_elab.proofs.GoingLaws.{bare_definition_asked, application_asked, cast_asked}
 
 module _ (e : Site) (vs : List Waiting) (l : Spot) (s : Store) (w : Option Tree) (n : ℕ) where
@@ -108,4 +108,9 @@ pub node_leads : (e : Site) (vs : List Waiting) (l : Spot) (s : Store) (w : Opti
     Leads f (asked_work e vs l s t w) b i → Leads f (node_work e vs l s w v) b j
 node_leads e vs l s w v t q f b i j k h =
     leads_paid f (node_work e vs l s w v) b 1 i j k
+    (leads_same f (asked_work e vs l s t w) (λ n. ticks 1 (node_work e vs l s w v n)) b i (λ n. ap (λ z. asked_work e vs l s z w n) (sym q) ∙ node_asked e vs l s w n v) h)
+
+pub node_lacks : (e : Site) (vs : List Waiting) (l : Spot) (s : Store) (w : Option Tree) (v : View) (t : Surface) → view_tree v ≡ t → (f : ℕ → Elab Found) (b i : ℕ) → i < 1 → Leads f (asked_work e vs l s t w) b i → ComesTo f b steps_out
+node_lacks e vs l s w v t q f b i k h =
+    leads_lacks f (node_work e vs l s w v) b 1 i k
     (leads_same f (asked_work e vs l s t w) (λ n. ticks 1 (node_work e vs l s w v n)) b i (λ n. ap (λ z. asked_work e vs l s z w n) (sym q) ∙ node_asked e vs l s w n v) h)

@@ -1,47 +1,39 @@
 -- A part was elaborated: the steps of what waits for it, by banks that grow.
-use Rattle.std.proofs.Common.{◌≡◌, ◌≤◌, ◌+◌, ◌*◌, ◌∙◌, ℕ, refl, sym, ap, ap₂, arith, List, [], ◌∷◌, ◌++◌, Option, None, Some, Result, Ok, Err}
+use Rattle.std.proofs.Common.{◌≡◌, ◌≤◌, ◌∙◌, ℕ, refl, sym, ap, ap₂, arith, List, [], ◌∷◌, ◌++◌, Option, None, Some, Result, Ok, Err}
 use Rattle.std.proofs.Common.{subst as along}
-use Rattle.std.specs.Prelude.{option_map}
 use Rattle.lq_trees.specs.declared.Sort.{Sort as Universe}
-use Rattle.lq_trees.specs.Tree.{Name, Tree, Context}
-use Rattle.lq_trees.specs.Tree.Tree.{Prod, Lam, Let, App, Sort}
-use Rattle.lq_trees.specs.Change.{subst, close}
+use Rattle.lq_trees.specs.Tree.{Name, Tree}
 use Rattle.lq_trees.specs.Fresh.{fresh, under, under_let}
-use Rattle.lq_trees.specs.Ticks.{Paid, gives, ◌>>=◌, done, ComesTo}
-use Rattle.lq_calculus.specs.Typing.{product_sort}
+use Rattle.lq_trees.specs.Ticks.{◌>>=◌, done, ComesTo}
 use Rattle.lq_ast.specs.Syntax.{Surface}
 use Rattle.lq_terms.specs.declared.nodes.NameId.{NameId}
-use Rattle.lq_terms.specs.declared.nodes.TermId.{TermId}
 use Rattle.lq_terms.specs.declared.nodes.Hypothesis.{Hypothesis}
-use Rattle.lq_terms.specs.Terms.{Terms, HasName, HasTerm, Grows, text_of, tree_of}
+use Rattle.lq_terms.specs.Terms.{Terms, Grows, tree_of}
 use Rattle.lq_terms.specs.Contexts.{context_of}
 use Rattle.lq_terms.proofs.Growth.{Grows-trans}
 use Rattle.lq_terms.proofs.Tellings.{context_of-grown}
-use Rattle.lq_solving.specs.Stores.{Store, names_in}
+use Rattle.lq_solving.specs.Stores.{Store}
 use Rattle.lq_solving.specs.ElabFaults.{Elab}
-use Rattle.lq_solving.specs.Elaboration.{Site as TreeSite, Found as TreeFound, found, found_sort, form_of, product_form, against, domain_agrees, rest_wanted}
+use Rattle.lq_solving.specs.Elaboration.{Site as TreeSite, Found as TreeFound, found, found_sort, domain_agrees, rest_wanted}
 use Rattle.lq_solving.proofs.ElabSettled.{at}
 use Rattle.lq_solving.proofs.ElabKept.{Grown, grown_now}
-use Rattle.lq_solving.specs.Kept.{IsStore}
-use Rattle.lq_evars.specs.Places.{Places, store_of, HasStore}
+use Rattle.lq_evars.specs.Places.{Places, store_of}
 use Rattle.lq_evars.proofs.Growing.{store_of-grown}
 use Rattle.lq_typing.specs.declared.faults.ElabFault.{ElabFault}
 use Rattle.lq_typing.specs.Refusals.{Refuses}
 use Rattle.lq_elab.specs.declared.finding.Found.{Found}
-use Rattle.lq_elab.specs.declared.frames.Bound.{Bound}
 use Rattle.lq_elab.specs.declared.frames.Frame.{Frame}
 use Rattle.lq_elab.specs.declared.scope.Meaning.{Meaning}
 use Rattle.lq_elab.specs.declared.sites.Site.{Site}
 use Rattle.lq_elab.specs.declared.turns.Turn.{Turn}
-use Rattle.lq_elab.specs.Answers.{found_of, product_found}
-use Rattle.lq_elab.specs.Waiting.{Spot, Waiting, waiting, product_domain, product_rest, function_domain, function_rest, definition_kind, definition_value, definition_rest, applied_function, applied_argument, cast_kind, cast_term}
+use Rattle.lq_elab.specs.Answers.{found_of}
+use Rattle.lq_elab.specs.Waiting.{Spot, Waiting, waiting, product_domain, product_rest, function_domain, function_rest, definition_value, definition_rest, applied_function, applied_argument, cast_term}
 use Rattle.lq_elab.specs.Waiting.{kind_or, left_wanted, product_of, function_of, definition_of, application_of, below, below_let, resumed, found_work, asked_work, held_work, Leads}
 use Rattle.lq_elab.specs.Naming.{under_binder}
-use Rattle.lq_elab.specs.Frames.{waits, spot_of, shorter}
-use Rattle.lq_elab.specs.Continuing.{IsNext, Continues}
+use Rattle.lq_elab.specs.Continuing.{Continues}
 use Rattle.lq_elab.specs.States.{IsState, TurnStands, site_of, turn_work}
-use Rattle.lq_elab.proofs.GoingLaws.{comes_same, leads_itself, leads_same, leads_done, agrees_work, product_domain_work, product_rest_work, function_domain_work, definition_kind_work, definition_value_work}
-use Rattle.lq_elab.proofs.GoingLaws.{function_work, last_argument_work, more_arguments_work, cast_kind_work}
+use Rattle.lq_elab.proofs.GoingLaws.{comes_same, leads_itself, leads_same, leads_done, agrees_work, product_domain_work, product_rest_work, function_domain_work, definition_value_work}
+use Rattle.lq_elab.proofs.GoingLaws.{last_argument_work, more_arguments_work}
 use Rattle.lq_elab.proofs.AnswerLaws.{refuses_first, refuses_rest, refuses_same}
 use Rattle.lq_elab.proofs.StateLaws.{site_of_grown, asked_grown}
 

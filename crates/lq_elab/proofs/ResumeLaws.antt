@@ -1,7 +1,7 @@
 -- A part was elaborated: the work that is left of what waits for it.
 use Rattle.std.proofs.Common.{ℕ, List, ◌∷◌, Option, Some}
 use Rattle.lq_trees.specs.declared.Sort.{Sort as Universe}
-use Rattle.lq_trees.specs.Tree.{Name, Tree, Context}
+use Rattle.lq_trees.specs.Tree.{Name, Tree}
 use Rattle.lq_trees.specs.Ticks.{◌>>=◌, done, ComesTo}
 use Rattle.lq_ast.specs.Syntax.{Surface}
 use Rattle.lq_terms.specs.Terms.{Terms}

@@ -1,8 +1,7 @@
 -- What was found comes next, once it is held against what is wanted.
-use Rattle.std.proofs.Common.{◌≡◌, ◌≤◌, ◌∙◌, ℕ, suc, sym, arith, List, [], ◌∷◌, Result, Ok, Err}
+use Rattle.std.proofs.Common.{◌≤◌, ℕ, suc, sym, arith, List}
 use Rattle.std.proofs.Common.{subst as along}
-use Rattle.lq_trees.specs.Tree.{Tree}
-use Rattle.lq_trees.specs.Ticks.{◌>>=◌, done, within, ComesTo}
+use Rattle.lq_trees.specs.Ticks.{◌>>=◌, done, ComesTo}
 use Rattle.lq_trees.proofs.TickLaws.{left_of, within_falls}
 use Rattle.lq_terms.specs.declared.nodes.NameId.{NameId}
 use Rattle.lq_terms.specs.declared.nodes.TermId.{TermId}
@@ -21,10 +20,9 @@ use Rattle.lq_elab.specs.declared.frames.Frame.{Frame}
 use Rattle.lq_elab.specs.declared.scope.Meaning.{Meaning}
 use Rattle.lq_elab.specs.declared.sites.Site.{Site}
 use Rattle.lq_elab.specs.declared.turns.Turn.{Turn}
-use Rattle.lq_elab.specs.Answers.{found_of}
 use Rattle.lq_elab.specs.Waiting.{Leads, found_work}
 use Rattle.lq_elab.specs.Frames.{waits}
-use Rattle.lq_elab.specs.States.{IsState, TurnStands, site_of, turn_work}
+use Rattle.lq_elab.specs.States.{IsState, site_of, turn_work}
 use Rattle.lq_elab.proofs.GoingLaws.{leads_done, leads_same}
 use Rattle.lq_elab.proofs.StateLaws.{state_grown, state_later, found_over, stands_grown}
 

@@ -2,8 +2,8 @@
 use Rattle.std.proofs.Common.{◌≡◌, ◌≤◌, ◌<◌, ◌+◌, ◌^◌, ◌∙◌, sym, ap, ap₂, arith, false, List, [], ◌∷◌, length, Result, Ok, Err, IfOk}
 use Rattle.std.proofs.Common.{subst as along}
 use Rattle.std.proofs.lemmas.List.{length-map}
-use Rattle.lq_trees.specs.Tree.{Name, Tree, Context}
-use Rattle.lq_trees.specs.Tree.Tree.{Rel, Var}
+use Rattle.lq_trees.specs.Tree.{Name, Tree}
+use Rattle.lq_trees.specs.Tree.Tree.{Rel}
 use Rattle.lq_trees.specs.Change.{subst, close, put}
 use Rattle.lq_trees.specs.Fresh.{is_listed, fresh, opened}
 use Rattle.lq_trees.specs.Hypotheses.{HoldsOnly}

@@ -1,5 +1,5 @@
 -- What names stand for outermost, entry by entry from the last to the first.
-use Rattle.std.proofs.Common.{◌≡◌, ◌≤◌, ◌<◌, ◌+◌, ◌-◌, ◌∙◌, ℕ, zero, suc, Bool, true, false, refl, sym, ap, arith, List, [], ◌∷◌, length, get_or, drop, Option, Some, None, if◌then◌else◌}
+use Rattle.std.proofs.Common.{◌≡◌, ◌≤◌, ◌<◌, ◌-◌, ◌∙◌, ℕ, zero, suc, true, false, refl, sym, ap, arith, List, [], ◌∷◌, length, get_or, drop, Option, Some, None, if◌then◌else◌}
 use Rattle.std.proofs.Common.{subst as along}
 use Rattle.std.specs.List.{AllByRecursion}
 use Rattle.std.proofs.lemmas.List.{drop_more}
@@ -8,7 +8,7 @@ use Rattle.lq_calculus.specs.Contraction.{hypothesis}
 use Rattle.lq_terms.specs.declared.nodes.NameId.{NameId}
 use Rattle.lq_terms.specs.declared.nodes.Hypothesis.{Hypothesis}
 use Rattle.lq_terms.specs.declared.nodes.TermId.{TermId}
-use Rattle.lq_terms.specs.Terms.{Terms, HasName, text_of, tree_of}
+use Rattle.lq_terms.specs.Terms.{Terms, HasName, text_of}
 use Rattle.lq_terms.specs.Contexts.{HasAllOf, HasContext, hypothesis_of, context_of}
 use Rattle.lq_solving.specs.Elaboration.{Given as TreeGiven, Givens}
 use Rattle.lq_solving.proofs.InstanceLaws.{is_same, same_flip}

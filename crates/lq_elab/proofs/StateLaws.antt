@@ -1,22 +1,20 @@
 -- What is true between two turns, in a bank or a store that has grown.
-use Rattle.std.proofs.Common.{◌≡◌, ◌∙◌, ℕ, refl, sym, ap, ap₂, arith, List, [], ◌∷◌, map, Option, None, Some}
+use Rattle.std.proofs.Common.{◌≡◌, ◌∙◌, ℕ, refl, sym, ap, ap₂, arith, List, [], ◌∷◌, Option, Some}
 use Rattle.std.proofs.Common.{subst as along}
 use Rattle.std.specs.Prelude.{option_map}
 use Rattle.std.specs.List.{AllByRecursion}
-use Rattle.lq_trees.specs.Tree.{Name, Tree, Context, value_of}
-use Rattle.lq_trees.specs.Index.{Within}
+use Rattle.lq_trees.specs.Tree.{Name, Tree, value_of}
 use Rattle.lq_terms.specs.declared.nodes.NameId.{NameId}
 use Rattle.lq_terms.specs.declared.nodes.TermId.{TermId}
 use Rattle.lq_terms.specs.declared.nodes.Hypothesis.{Hypothesis}
-use Rattle.lq_terms.specs.Terms.{Terms, HasName, HasTerm, Grows, text_of, tree_of}
-use Rattle.lq_terms.specs.Contexts.{HasBody, HasContext, context_of}
+use Rattle.lq_terms.specs.Terms.{Terms, HasTerm, Grows, text_of, tree_of}
+use Rattle.lq_terms.specs.Contexts.{HasBody, context_of}
 use Rattle.lq_terms.proofs.Tellings.{HasBody-grown, HasContext-grown, body-grown, context_of-grown}
-use Rattle.lq_env.specs.Environments.{IsEnv, env_of}
+use Rattle.lq_env.specs.Environments.{env_of}
 use Rattle.lq_env.proofs.Grown.{env_of-grown, IsEnv-grown}
 use Rattle.lq_solving.specs.Stores.{Store, names_in}
-use Rattle.lq_solving.specs.Kept.{IsOver, IsContext, IsStore, OptionStands, StandsIn}
+use Rattle.lq_solving.specs.Kept.{IsContext, IsStore, OptionStands, StandsIn}
 use Rattle.lq_solving.specs.Claims.{ArePlainDeclarations}
-use Rattle.lq_solving.specs.ElabFaults.{Elab}
 use Rattle.lq_solving.specs.Elaboration as tree
 use Rattle.lq_solving.specs.Elaboration.{Found, given_term}
 use Rattle.lq_solving.proofs.ElabKept.{Grown}
@@ -34,7 +32,6 @@ use Rattle.lq_elab.specs.Waiting as waited
 use Rattle.lq_elab.specs.declared.frames.Part.{Part}
 use Rattle.lq_elab.specs.Naming.{meaning}
 use Rattle.lq_elab.specs.Views.{asked_tree}
-use Rattle.lq_elab.specs.Scopes.{IsScope}
 use Rattle.lq_elab.specs.Frames.{part_of, spot_of, waits, FramesHold, AllStand}
 use Rattle.lq_elab.specs.Answers.{found_of}
 use Rattle.lq_elab.specs.States.{given_of, givens_of, HasGiven, site_of, IsSite, IsState, TurnStands, turn_work}

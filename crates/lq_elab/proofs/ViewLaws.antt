@@ -1,5 +1,5 @@
 -- The first name of a row, and what it binds.
-use Rattle.std.proofs.Common.{◌≡◌, refl, sym, ap, arith, length, Bool, true, false, List, [], ◌∷◌, ◌++◌, map, Option, None, Some, Bor}
+use Rattle.std.proofs.Common.{◌≡◌, refl, sym, ap, arith, length, Bool, List, [], ◌∷◌, ◌++◌, map, Option, None, Some, Bor}
 use Rattle.lq_ast.specs.Syntax as Tree
 use Rattle.lq_ast.specs.Syntax.{Bound, bound, applied}
 use Rattle.lq_ast.specs.Plain.{plain, plain_binders, name_of, typed, untyped, joined}

@@ -1,5 +1,5 @@
 -- Weak head forms that are sorts or products.
-use Rattle.std.specs.Prelude.{◌≡◌, Option, Some, None, Result, Ok, Err, option_map}
+use Rattle.std.specs.Prelude.{◌≡◌, Option, Some, None, Result, Ok, Err}
 use Rattle.lq_trees.specs.declared.Sort.{Sort as Universe}
 use Rattle.lq_trees.specs.Tree.{Name, Tree}
 use Rattle.lq_trees.specs.Ticks.{gives, fails}
@@ -9,7 +9,6 @@ use Rattle.lq_reduce.specs.declared.faults.ReduceFault.{ReduceFault}
 use Rattle.lq_solving.specs.ElabFaults.{no_sort, no_product}
 use Rattle.lq_solving.specs.Elaboration.{sort_form, product_form, as_wanted}
 use Rattle.lq_typing.specs.declared.faults.ElabFault.{ElabFault}
-use Rattle.lq_elab.specs.Frames.{pair_of, HasPair}
 
 -- a fault of reduction as one of elaboration
 abbrev pub elab_fault : ReduceFault → ElabFault

@@ -14,3 +14,5 @@ pub mod Continuing
 pub mod Entering
 pub mod Ending
 pub mod Starting
+pub mod Running
+pub mod Calls

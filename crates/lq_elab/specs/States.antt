@@ -1,10 +1,9 @@
 -- What comes next in elaboration, and that it leads to the outcome of the call.
-use Rattle.std.specs.Prelude.{◌≡◌, ℕ, List, [], ◌∷◌, map, Option, Some, None, option_map, Result, Ok, Err}
+use Rattle.std.specs.Prelude.{◌≡◌, ℕ, List, map, Some, option_map, Result, Ok, Err}
 use Rattle.std.specs.List.{AllByRecursion}
-use Rattle.lq_trees.specs.Tree.{Name, Tree, Context, value_of}
+use Rattle.lq_trees.specs.Tree.{Name, Tree, value_of}
 use Rattle.lq_trees.specs.Index.{Within}
 use Rattle.lq_terms.specs.declared.nodes.NameId.{NameId}
-use Rattle.lq_terms.specs.declared.nodes.TermId.{TermId}
 use Rattle.lq_terms.specs.declared.nodes.Hypothesis.{Hypothesis}
 use Rattle.lq_terms.specs.Terms.{Terms, HasName, HasTerm, text_of, tree_of}
 use Rattle.lq_terms.specs.Contexts.{HasBody, HasContext, context_of}

@@ -1,11 +1,9 @@
 -- Terms as they are written, node by node, and the trees that they stand for.
-use Rattle.std.specs.Prelude.{Bool, true, false, List, [], ◌∷◌, ◌++◌, map, Option, Some, None}
+use Rattle.std.specs.Prelude.{Bool, true, false, List, ◌∷◌, ◌++◌, map, Some, None}
 use Rattle.lq_trees.specs.Tree.{Name}
 use Rattle.lq_ast.specs.Syntax as Tree
 use Rattle.lq_ast.specs.Syntax.{Bound, bound, applied}
 use Rattle.lq_ast.specs.Plain.{plain, plain_binders, plain_domain, name_of, typed, untyped, joined}
-use Rattle.lq_ast.specs.declared.surface.Binder.{Binder}
-use Rattle.lq_ast.specs.declared.surface.Surface.{Surface}
 use Rattle.lq_elab.specs.declared.views.Row.{Row}
 use Rattle.lq_elab.specs.declared.views.Asked.{Asked}
 use Rattle.lq_elab.specs.declared.views.Head.{Head}

@@ -108,8 +108,13 @@ fn parts_of(bank: &Bank<'_>, form: TermId) -> Option<(TermId, TermId)>
     }
 }
 
-/// The sort that a type's weak head form must be.
-pub(crate) fn sort_of<L: Ledger>(
+/// The sort that a type's weak head form must be: `kind` is the type of a term that stands as a type in `context`.
+/// Each contraction on the way to the weak head form takes a tick.
+///
+/// `Err`: `NotASort` with the weak head form where that is no sort, `StepsOut` where the ticks don't last, `TooLarge` or `TooDeep` where a
+/// form on the way passes the limits of terms, or want of memory.
+/// Rocq reference manual, "Conversion rules" and "Sorts".
+pub fn sort_of<L: Ledger>(
     work: &mut Work<'_, '_>,
     env: &Env,
     store: &Store,

@@ -1,11 +1,10 @@
-use Rattle.std.proofs.Common.{◌∙◌, sym, Some, OnOk}
+use Rattle.std.proofs.Common.{◌∙◌, sym, OnOk}
 use Rattle.std.proofs.Common.{subst as along}
 use Rattle.std.specs.Prelude.{option_map}
 use Rattle.lq_trees.specs.Ticks.{done, ComesTo}
 use Rattle.lq_terms.specs.Terms.{tree_of}
 use Rattle.lq_terms.specs.Contexts.{HasBody, context_of}
 use Rattle.lq_terms.proofs.Tellings.{HasContext-grown}
-use Rattle.lq_env.specs.Environments.{env_of}
 use Rattle.lq_env.proofs.Grown.{env_of-grown, IsEnv-grown}
 use Rattle.lq_solving.specs.Claims.{ArePlainDeclarations}
 use Rattle.lq_solving.specs.Kept.{IsStore, OptionStands}

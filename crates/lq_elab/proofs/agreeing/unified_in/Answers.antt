@@ -3,7 +3,7 @@ use Rattle.std.proofs.Common.{subst as along}
 use Rattle.lq_calculus.specs.Declarations.{rules_of}
 use Rattle.lq_terms.specs.Terms.{tree_of}
 use Rattle.lq_terms.specs.Contexts.{context_of}
-use Rattle.lq_env.specs.Environments.{env_of, telling}
+use Rattle.lq_env.specs.Environments.{env_of}
 use Rattle.lq_solving.specs.Kept.{IsOver}
 use Rattle.lq_solving.specs.Unification.{unify}
 use Rattle.lq_evars.specs.Places.{store_of}
@@ -12,7 +12,6 @@ use Rattle.lq_unify.specs.Turns.{Unifies}
 use Rattle.lq_typing.specs.Refusals.{Refuses}
 use Rattle.lq_solving.specs.Elaboration.{unified}
 use Rattle.lq_solving.proofs.ElabSettled.{at}
-use Rattle.lq_elab.specs.Answers.{Comes}
 use Rattle.lq_elab.proofs.AgreeingLaws.{env_rules, yes_unified, no_unified, stops_unified}
 use Rattle.lq_elab.proofs.AgreedLaws.{later_grown}
 use Rattle.lq_elab.proofs.agreeing.unified_in.Goals as goal

@@ -1,10 +1,10 @@
 use Rattle.std.proofs.Common.{subst as along}
 use Rattle.std.specs.Prelude.{option_map}
-use Rattle.lq_terms.specs.Terms.{HasTerm, text_of, tree_of}
-use Rattle.lq_terms.specs.Contexts.{HasBody, context_of}
+use Rattle.lq_terms.specs.Terms.{tree_of}
+use Rattle.lq_terms.specs.Contexts.{context_of}
 use Rattle.lq_solving.specs.Kept.{OptionStands}
-use Rattle.lq_solving.specs.Stores.{names_in, named_variable}
-use Rattle.lq_solving.specs.Elaboration.{blank_found, named_found}
+use Rattle.lq_solving.specs.Stores.{names_in}
+use Rattle.lq_solving.specs.Elaboration.{blank_found}
 use Rattle.lq_evars.specs.Places.{store_of}
 use Rattle.lq_elab.specs.Waiting.{Leads}
 use Rattle.lq_elab.specs.Nodes.{made_next}

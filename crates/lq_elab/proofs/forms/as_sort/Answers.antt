@@ -1,7 +1,4 @@
-use Rattle.std.proofs.Common.{◌∙◌, refl, sym, ap}
-use Rattle.lq_terms.specs.Terms.{tree_of}
-use Rattle.lq_solving.specs.ElabFaults.{no_sort}
-use Rattle.lq_solving.specs.Elaboration.{sort_form}
+use Rattle.std.proofs.Common.{refl}
 use Rattle.lq_elab.proofs.FormLaws.{is_sort, other_sort}
 use Rattle.lq_elab.proofs.forms.as_sort.Goals as goal
 

@@ -1,4 +1,4 @@
-use Rattle.std.proofs.Common.{sym, Some, None}
+use Rattle.std.proofs.Common.{sym, None}
 use Rattle.std.proofs.Common.{subst as along}
 use Rattle.std.specs.Prelude.{option_map}
 use Rattle.lq_trees.specs.Ticks.{done, ComesTo}

@@ -1,8 +1,5 @@
-use Rattle.std.proofs.Common.{◌≡◌, sym, ap, [], Some, None, IfOk}
-use Rattle.std.proofs.Common.{subst as along}
-use Rattle.lq_calculus.specs.Declarations.{lookup}
-use Rattle.lq_inference.specs.Inference.{closed}
-use Rattle.lq_terms.specs.Terms.{HasTerm, text_of, tree_of}
+use Rattle.std.proofs.Common.{IfOk}
+use Rattle.lq_terms.specs.Terms.{HasTerm, text_of}
 use Rattle.lq_env.specs.Environments.{env_of}
 use Rattle.lq_kernel.proofs.Told.{own}
 use Rattle.lq_elab.proofs.GlobalLaws.{absent_refuses, constant_answer, constant_known, family_answer, family_known, ctor_answer, ctor_known, elim_answer, elim_known}

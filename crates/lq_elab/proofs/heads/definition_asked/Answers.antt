@@ -2,7 +2,7 @@ use Rattle.std.proofs.Common.{◌∙◌, sym, ap}
 use Rattle.std.proofs.Common.{subst as along}
 use Rattle.std.specs.Prelude.{option_map}
 use Rattle.lq_ast.specs.Plain.{plain, plain_domain}
-use Rattle.lq_ast.specs.Syntax.{Domain, Written, Missing}
+use Rattle.lq_ast.specs.Syntax.{Written}
 use Rattle.lq_terms.specs.Terms.{text_of, tree_of}
 use Rattle.lq_evars.specs.Places.{store_of}
 use Rattle.lq_elab.specs.Waiting.{Leads}

@@ -1,5 +1,4 @@
-use Rattle.std.proofs.Common.{◌∙◌, refl, ap, arith}
-use Rattle.lq_calculus.specs.Checking.{sort_above}
+use Rattle.std.proofs.Common.{refl, arith}
 use Rattle.lq_kernel.proofs.Leaves.{is_above_base, is_above_level}
 use Rattle.lq_elab.proofs.LeafLaws.{last_level}
 use Rattle.lq_elab.proofs.leaves.above.Goals as goal

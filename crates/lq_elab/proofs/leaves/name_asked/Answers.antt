@@ -1,18 +1,14 @@
-use Rattle.std.proofs.Common.{◌∙◌, sym, OnOk}
+use Rattle.std.proofs.Common.{OnOk}
 use Rattle.std.proofs.Common.{subst as along}
 use Rattle.std.specs.Prelude.{option_map}
-use Rattle.lq_trees.specs.Ticks.{done, ComesTo}
-use Rattle.lq_trees.specs.Tree.Tree.{Sort}
 use Rattle.lq_terms.specs.Terms.{text_of, tree_of}
 use Rattle.lq_terms.specs.Contexts.{context_of}
-use Rattle.lq_solving.specs.Kept.{StandsIn}
 use Rattle.lq_solving.specs.Elaboration.{found, name_found}
 use Rattle.lq_solving.proofs.ElabKept.{Grown}
 use Rattle.lq_solving.proofs.ElabSettled.{at}
 use Rattle.lq_evars.specs.Places.{store_of}
 use Rattle.lq_evars.proofs.Growing.{store_of-grown}
 use Rattle.lq_elab.specs.Waiting.{held_work}
-use Rattle.lq_elab.specs.Nodes.{sort_found}
 use Rattle.lq_elab.specs.Frames.{spot_of, waits}
 use Rattle.lq_elab.specs.States.{site_of}
 use Rattle.lq_elab.proofs.StateLaws.{state_grown, wanted_grown}

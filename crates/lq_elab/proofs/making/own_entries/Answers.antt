@@ -1,4 +1,4 @@
-use Rattle.std.proofs.Common.{◌≡◌, ◌+◌, [], None, sym, arith, rules}
+use Rattle.std.proofs.Common.{◌≡◌, ◌+◌, [], None, sym, rules}
 use Rattle.std.proofs.Common.{subst as along}
 use Rattle.lq_elab.proofs.MakingLaws.{AreOwn, own_none, own_more, own_all}
 use Rattle.lq_elab.proofs.making.own_entries.Goals as goal

@@ -1,4 +1,4 @@
-use Rattle.std.proofs.Common.{◌∙◌, refl, sym, ap, ap₂}
+use Rattle.std.proofs.Common.{◌∙◌, sym, ap}
 use Rattle.std.proofs.Common.{subst as along}
 use Rattle.std.specs.Prelude.{not}
 use Rattle.lq_trees.specs.Ticks.{done, ComesTo}

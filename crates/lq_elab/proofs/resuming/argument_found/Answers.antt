@@ -1,4 +1,4 @@
-use Rattle.std.proofs.Common.{◌∷◌, ◌+◌, ◌*◌, sym, ap, arith, length, Some, None}
+use Rattle.std.proofs.Common.{◌∷◌, ◌+◌, ◌*◌, sym, ap, arith, length}
 use Rattle.std.proofs.Common.{subst as along}
 use Rattle.lq_terms.specs.Terms.{tree_of}
 use Rattle.lq_terms.specs.Contexts.{context_of}

@@ -1,4 +1,4 @@
-use Rattle.std.proofs.Common.{◌∷◌, refl, arith}
+use Rattle.std.proofs.Common.{◌∷◌, arith}
 use Rattle.lq_evars.specs.Places.{store_of}
 use Rattle.lq_elab.specs.declared.entering.Under.{Under}
 use Rattle.lq_elab.specs.declared.frames.Part.{Part}

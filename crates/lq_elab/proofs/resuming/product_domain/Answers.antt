@@ -1,6 +1,5 @@
 use Rattle.std.proofs.Common.{◌∷◌, refl, arith}
 use Rattle.std.specs.Prelude.{option_map}
-use Rattle.lq_ast.specs.Plain.{plain}
 use Rattle.lq_terms.specs.Terms.{text_of, tree_of}
 use Rattle.lq_elab.specs.declared.frames.Part.{Part}
 use Rattle.lq_elab.specs.declared.turns.Turn.{Turn}

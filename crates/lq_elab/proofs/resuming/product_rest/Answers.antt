@@ -1,7 +1,6 @@
 use Rattle.std.proofs.Common.{◌∷◌, refl, arith}
 use Rattle.std.proofs.Common.{subst as along}
 use Rattle.std.specs.Prelude.{option_map}
-use Rattle.lq_ast.specs.Plain.{plain}
 use Rattle.lq_terms.specs.Terms.{text_of, tree_of}
 use Rattle.lq_terms.proofs.Growth.{Grows-trans}
 use Rattle.lq_evars.specs.Places.{store_of}

@@ -2,7 +2,6 @@ use Rattle.std.proofs.Common.{arith, refl}
 use Rattle.std.specs.Prelude.{option_map}
 use Rattle.lq_terms.specs.Terms.{tree_of}
 use Rattle.lq_terms.specs.Contexts.{context_of}
-use Rattle.lq_evars.specs.Places.{store_of}
 use Rattle.lq_solving.specs.Elaboration.{against}
 use Rattle.lq_solving.proofs.ElabSettled.{at}
 use Rattle.lq_elab.specs.Answers.{found_of}

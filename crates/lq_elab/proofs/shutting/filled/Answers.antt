@@ -1,11 +1,5 @@
-use Rattle.std.proofs.Common.{sym, ap}
-use Rattle.std.proofs.Common.{subst as along}
 use Rattle.lq_terms.specs.Terms.{tree_of}
-use Rattle.lq_terms.specs.Contexts.{context_of}
-use Rattle.lq_trees.specs.Hypotheses.{HoldsOnly}
-use Rattle.lq_terms.proofs.Tellings.{HasContext-grown, context_of-grown}
-use Rattle.lq_solving.specs.Stores.{names_in}
-use Rattle.lq_trees.proofs.Reach.{within-subst, within_fits}
+use Rattle.lq_terms.proofs.Tellings.{HasContext-grown}
 use Rattle.lq_elab.proofs.ShutSteps.{filled_index, holds_later}
 use Rattle.lq_elab.proofs.shutting.filled.Goals as goal
 

@@ -1,4 +1,4 @@
-use Rattle.std.proofs.Common.{◌≡◌, ◌∙◌, sym, ap, length}
+use Rattle.std.proofs.Common.{◌∙◌, sym, ap, length}
 use Rattle.lq_ast.specs.Plain.{plain}
 use Rattle.lq_elab.proofs.ViewLaws.{apply_none}
 use Rattle.lq_elab.proofs.views.+node.Goals as goal

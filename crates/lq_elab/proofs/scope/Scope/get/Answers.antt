@@ -1,8 +1,6 @@
-use Rattle.std.proofs.Common.{◌≡◌, ◌∙◌, refl, sym, ap}
+use Rattle.std.proofs.Common.{◌∙◌, refl, sym, ap}
 use Rattle.std.proofs.Common.{subst as along}
-use Rattle.lq_terms.specs.Terms.{text_of}
 use Rattle.lq_terms.proofs.Growth.{Grows-refl}
-use Rattle.lq_elab.specs.declared.scope.Meaning.{Meaning}
 use Rattle.lq_elab.specs.Scopes.{meaning_of, HasMeaning, set_at}
 use Rattle.lq_elab.proofs.ScopeLaws.{or_global, set_by}
 use Rattle.lq_elab.proofs.scope.Scope.get.Goals as goal

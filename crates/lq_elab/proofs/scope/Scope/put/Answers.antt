@@ -1,4 +1,4 @@
-use Rattle.std.proofs.Common.{◌≡◌, ◌∙◌, refl, sym, ap}
+use Rattle.std.proofs.Common.{◌∙◌, refl, sym, ap}
 use Rattle.std.proofs.Common.{subst as along}
 use Rattle.lq_terms.specs.Terms.{text_of}
 use Rattle.lq_elab.specs.Naming.{with_meaning}
