@@ -13,7 +13,7 @@ ghost use Rattle.lq_solving.specs.Elaboration.{Givens};
 ghost use Rattle.lq_solving.proofs.StandsLaws.{StandsUnder};
 ghost use Rattle.lq_evars.specs.Places.{HasStore, store_of};
 ghost use Rattle.lq_tactics.specs.Rows.{Scene, new_goal};
-ghost use Rattle.lq_tactics.specs.Primitives.{under_product};
+ghost use Rattle.lq_tactics.specs.Primitives.{under_product, under_value};
 ghost use Rattle.lq_prims.specs.Reaching.{reached_done};
 ghost use Rattle.lq_prims.specs.Scenes.{IsGoal, context_at, behind, scene_by};
 ghost use Rattle.lq_prims.specs.Working.{Does};
@@ -117,6 +117,52 @@ pub(crate) fn under_product<L: Ledger>(
         name,
         body: None,
         kind: domain,
+    };
+    let made = entered(work, store, goal, hypothesis, rest, steps)?;
+    Ok(Reached { body, goal: made })
+}
+
+/// The goal under a hypothesis of that name, value and type, and what is a local definition round it.
+pub(crate) fn under_definition<L: Ledger>(
+    work: &mut Work<'_, '_>,
+    store: &mut Store,
+    goal: u32,
+    name: NameId,
+    value: TermId,
+    kind: TermId,
+    rest: TermId,
+    steps: &mut Steps<L>,
+) -> Result<Reached, PrimFault>
+    requires place { IsGoal work.old.bank.now store.old goal }
+    requires name { HasName work.old.bank.now name }
+    requires new { is_listed (names_in (context_at (store_of work.old.bank.now store.old) goal)) (text_of work.old.bank.now name) ≡ false }
+    requires value { HasTerm work.old.bank.now value }
+    requires value_stands { StandsIn (store_of work.old.bank.now store.old) (context_at (store_of work.old.bank.now store.old) goal)
+        (tree_of work.old.bank.now value) }
+    requires kind { HasTerm work.old.bank.now kind }
+    requires kind_stands { StandsIn (store_of work.old.bank.now store.old) (context_at (store_of work.old.bank.now store.old) goal)
+        (tree_of work.old.bank.now kind) }
+    requires rest { HasTerm work.old.bank.now rest }
+    requires rest_stands { StandsUnder (store_of work.old.bank.now store.old) (names_in (context_at (store_of work.old.bank.now store.old) goal)) 1
+        (tree_of work.old.bank.now rest) }
+    ensures answer { (E : Environment) (T : Tree) (vs : Givens) → Does work.new.bank.now (reached_done work.new.bank.now store.new) result
+        (λ n. under_value (scene_by E (store_of work.old.bank.now store.old) goal (context_at (store_of work.old.bank.now store.old) goal) T vs n)
+        (text_of work.old.bank.now name) (text_of work.old.bank.now name) (tree_of work.old.bank.now value) (tree_of work.old.bank.now kind)
+        (tree_of work.old.bank.now rest)) work.old.ticks.now.left work.new.ticks.now.left }
+    ensures body { IfOk result (λ r. HasTerm work.new.bank.now r.body) }
+    ensures has { OnOk result (HasStore work.new.bank.now store.new) }
+    ensures same_bank { work.new.bank.ghost_name ≡ work.old.bank.ghost_name }
+    ensures same_ticks { work.new.ticks.ghost_name ≡ work.old.ticks.ghost_name }
+    ensures grows { Grows work.old.bank.now work.new.bank.now }
+    ensures budget { work.new.ticks.now.left + work.new.ticks.now.spent ≡ work.old.ticks.now.left + work.old.ticks.now.spent }
+    ensures counted { steps.new + work.old.ticks.now.spent ≡ steps.old + work.new.ticks.now.spent }
+{
+    let inside = next_inside(work.bank, store, goal)?;
+    let body = work.bank.make(Node::Let(name, value, kind, inside))?;
+    let hypothesis = Hypothesis {
+        name,
+        body: Some(value),
+        kind,
     };
     let made = entered(work, store, goal, hypothesis, rest, steps)?;
     Ok(Reached { body, goal: made })

@@ -8,6 +8,7 @@ mod entering;
 mod faults;
 mod giving;
 mod holding;
+mod introducing;
 mod naming;
 mod needing;
 mod new_goals;
