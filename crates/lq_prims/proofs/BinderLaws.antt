@@ -1,8 +1,7 @@
 -- What stands under a binder, once a goal stands there.
-use Rattle.std.proofs.Common.{◌≡◌, ◌∙◌, ℕ, refl, sym, ap, ap₂, arith, Bool, true, false, ◌||◌, if◌then◌else◌, List, [], ◌∷◌, ◌++◌, Option, Some, None}
-use Rattle.std.proofs.Common.{subst as along}
+use Rattle.std.proofs.Common.{◌≡◌, ℕ, refl, ap, ap₂, arith, Bool, true, false, ◌||◌, if◌then◌else◌, [], ◌∷◌, ◌++◌}
 use Rattle.lq_trees.specs.declared.Fit.{Fit}
-use Rattle.lq_trees.specs.Tree.{Name, Tree, Trees, Hypothesis, Context, same_name}
+use Rattle.lq_trees.specs.Tree.{Tree, Trees, Hypothesis, Context, same_name}
 use Rattle.lq_trees.specs.Tree.Tree.{Rel, Var, Evar}
 use Rattle.lq_trees.specs.Change.{closing, close, replace_each}
 use Rattle.lq_trees.specs.Size.{fit}
@@ -10,8 +9,8 @@ use Rattle.lq_trees.specs.Ticks.{gives, fails, faults_as}
 use Rattle.lq_trees.specs.Fresh.{is_listed}
 use Rattle.lq_calculus.specs.Declarations.{variables}
 use Rattle.lq_solving.specs.Stores.{names_in, instance_list, own_instance}
-use Rattle.lq_solving.specs.ElabFaults.{ElabFault, Elab, elab_fitting, elab_too_large, elab_too_deep}
-use Rattle.lq_tactics.specs.Rows.{RowFault, Doing, by_elab, elab_work, needed_form, goal_term}
+use Rattle.lq_solving.specs.ElabFaults.{Elab, elab_fitting, elab_too_large, elab_too_deep}
+use Rattle.lq_tactics.specs.Rows.{by_elab, elab_work, needed_form, goal_term}
 
 or_false : (a b : Bool) → (a || b) ≡ false → (a ≡ false) × (b ≡ false)
 or_false false b e = (refl, e)

@@ -1,24 +1,19 @@
 -- A goal under one hypothesis more, by places of a bank.
-use Rattle.std.proofs.Common.{◌≡◌, ◌∙◌, ℕ, refl, sym, ap, ap₂, arith, false, List, [], ◌∷◌, ◌++◌, map, Option, Some, None, Result, Ok, Err}
+use Rattle.std.proofs.Common.{◌≡◌, ◌∙◌, ℕ, sym, ap, false, List, [], ◌∷◌, ◌++◌, Result}
 use Rattle.std.proofs.Common.{subst as along}
-use Rattle.std.specs.List.{AllByRecursion}
 use Rattle.std.proofs.lemmas.List.{map-append}
-use Rattle.lq_trees.specs.Tree.{Name, Tree, Trees, Context, Hypothesis as TreeHypothesis}
-use Rattle.lq_trees.specs.Tree.Tree.{Rel, Evar}
+use Rattle.lq_trees.specs.Tree.{Tree, Context}
 use Rattle.lq_trees.specs.Fresh.{is_listed, opened}
-use Rattle.lq_calculus.specs.Declarations.{variables}
 use Rattle.lq_terms.specs.declared.nodes.Hypothesis.{Hypothesis}
 use Rattle.lq_terms.specs.declared.nodes.TermId.{TermId}
-use Rattle.lq_terms.specs.Terms.{Terms, HasTerm, IsTerm, Grows, tree_of, trees_by}
+use Rattle.lq_terms.specs.Terms.{Terms, IsTerm, Grows, tree_of}
 use Rattle.lq_terms.specs.Contexts.{HasAllOf, HasContext, hypothesis_of, context_of}
-use Rattle.lq_solving.specs.Stores.{Store, names_in, instance_list, count}
-use Rattle.lq_solving.specs.Kept.{IsContext, IsStore, OptionStands, Stands, StandsIn}
+use Rattle.lq_solving.specs.Stores.{Store, names_in}
+use Rattle.lq_solving.specs.Kept.{IsContext, OptionStands, StandsIn}
 use Rattle.lq_solving.proofs.StandsLaws.{StandsUnder}
-use Rattle.lq_evars.specs.Places.{Places, HasStore, store_of}
-use Rattle.lq_evars.proofs.Growing.{store_of-grown, HasStore-grown, context_grown}
-use Rattle.lq_goals.proofs.RootLaws.{own_has}
-use Rattle.lq_unify.proofs.PartLaws.{instance_map}
-use Rattle.lq_tactics.specs.Rows.{Scene, Doing, new_goal, goal_term}
+use Rattle.lq_evars.specs.Places.{Places, store_of}
+use Rattle.lq_evars.proofs.Growing.{store_of-grown, context_grown}
+use Rattle.lq_tactics.specs.Rows.{Scene, new_goal}
 use Rattle.lq_tactics.proofs.IntroKept.{more_context, unshut_stands}
 use Rattle.lq_prims.specs.declared.faults.PrimFault.{PrimFault}
 use Rattle.lq_prims.specs.Scenes.{IsGoal, context_at, behind}

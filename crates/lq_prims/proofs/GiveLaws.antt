@@ -18,7 +18,7 @@ use Rattle.lq_solving.proofs.Later.{good_read}
 use Rattle.lq_evars.specs.declared.store.StoreFault.{StoreFault}
 use Rattle.lq_evars.specs.Places.{Places, store_of}
 use Rattle.lq_evars.specs.Reading.{Answers, Gives}
-use Rattle.lq_tactics.specs.Rows.{RowFault, by_store_call, Doing, Step, done_by, needed, given_to}
+use Rattle.lq_tactics.specs.Rows.{by_store_call, Doing, Step, done_by, needed, given_to}
 use Rattle.lq_prims.specs.declared.faults.PrimFault.{PrimFault}
 use Rattle.lq_prims.specs.Refusals.{store_refusal}
 use Rattle.lq_prims.specs.Working.{Refuses, Tells}

@@ -1,23 +1,23 @@
 -- `intro`, step by step.
-use Rattle.std.proofs.Common.{◌≡◌, ◌∙◌, ℕ, zero, suc, refl, sym, ap, arith, Bool, true, false, List, [], ◌∷◌, ◌++◌, Option, Some, None, Result, Ok, Err}
+use Rattle.std.proofs.Common.{◌≡◌, ◌∙◌, ℕ, refl, sym, ap, arith, Bool, true, false, [], ◌∷◌, ◌++◌, Option, Some, None, Result}
 use Rattle.std.proofs.Common.{subst as along}
 use Rattle.lq_trees.specs.Tree.{Name, Tree, Context}
 use Rattle.lq_trees.specs.Tree.Tree.{Rel, Var, Sort, Prod, Lam, Let, App, Const, Ind, Ctor, Elim, Evar}
 use Rattle.lq_trees.specs.Change.{close}
 use Rattle.lq_trees.specs.Fresh.{is_listed, opened, under, under_let}
-use Rattle.lq_trees.specs.Ticks.{gives, fails, ◌>>=◌, done, failed, ComesTo}
+use Rattle.lq_trees.specs.Ticks.{gives, fails, done, ComesTo}
 use Rattle.lq_trees.proofs.Outcomes.{comes_then, comes_gives, comes_fails}
 use Rattle.lq_calculus.specs.Declarations.{Env as Environment, variables}
 use Rattle.lq_calculus.proofs.ConvSound.{Gives}
 use Rattle.lq_terms.specs.Terms.{Terms}
-use Rattle.lq_solving.specs.Stores.{Store, names_in, instance_list, count, read}
+use Rattle.lq_solving.specs.Stores.{Store, names_in, instance_list, count}
 use Rattle.lq_solving.specs.Kept.{StandsIn}
 use Rattle.lq_solving.specs.Elaboration.{Givens}
 use Rattle.lq_tactics.specs.Rows.{RowFault, Doing, Scene, Done, done_by, new_goal, goal_term, head_of, unused, nothing_to_introduce}
 use Rattle.lq_tactics.specs.Primitives.{intro_name, under_product, under_value, intro_on, is_binder, binder_form, do_intro}
 use Rattle.lq_tactics.proofs.RowsKept.{IsScene, head_stands}
 use Rattle.lq_prims.specs.declared.faults.PrimFault.{PrimFault}
-use Rattle.lq_prims.specs.Working.{Refuses, Does, Tells}
+use Rattle.lq_prims.specs.Working.{Refuses, Does}
 use Rattle.lq_prims.specs.Scenes.{scene_by, form_work}
 use Rattle.lq_prims.proofs.WorkLaws.{refuses_at, refuses_then, refuses_first, refuses_same, does_then, does_same, does_after}
 use Rattle.lq_solving.proofs.InstanceLaws.{is_same}

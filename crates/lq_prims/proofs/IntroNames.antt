@@ -1,6 +1,5 @@
 -- The name that `intro` gives.
 use Rattle.std.proofs.Common.{◌≡◌, ◌<◌, ◌^◌, ◌∙◌, ℕ, refl, sym, ap, arith, Bool, true, false, List, length, Option, Some, None}
-use Rattle.std.proofs.Common.{subst as along}
 use Rattle.std.proofs.lemmas.List.{length-map}
 use Rattle.lq_trees.specs.Tree.{Name, Context}
 use Rattle.lq_trees.specs.Fresh.{is_listed, fresh_of}
@@ -10,7 +9,7 @@ use Rattle.lq_terms.specs.declared.nodes.NameId.{NameId}
 use Rattle.lq_terms.specs.Terms.{Terms, HasName, text_of}
 use Rattle.lq_terms.specs.Contexts.{context_of, hypothesis_of}
 use Rattle.lq_solving.specs.Stores.{names_in}
-use Rattle.lq_tactics.specs.Rows.{RowFault, Doing, Scene, unused, used_name}
+use Rattle.lq_tactics.specs.Rows.{Doing, Scene, unused, used_name}
 use Rattle.lq_tactics.specs.Primitives.{intro_name, or_h}
 use Rattle.lq_prims.specs.declared.faults.PrimFault.{PrimFault}
 use Rattle.lq_prims.specs.Working.{Refuses}

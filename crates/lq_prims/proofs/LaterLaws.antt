@@ -1,9 +1,9 @@
 -- What was true of a goal and of terms is true in a bank that has grown, and answers there are answers here.
-use Rattle.std.proofs.Common.{◌≡◌, ◌∙◌, ℕ, List, refl, sym, ap, ap₂, arith, true, false, Option, Some, None, Result, Ok, Err}
+use Rattle.std.proofs.Common.{◌≡◌, ◌∙◌, ℕ, List, refl, sym, ap, ap₂, arith, true, false, Option, Some, None, Result}
 use Rattle.std.proofs.Common.{subst as along}
 use Rattle.std.specs.Prelude.{option_map}
 use Rattle.lq_trees.specs.Tree.{Name, Tree, Context}
-use Rattle.lq_trees.specs.Tree.Tree.{Prod, Let}
+use Rattle.lq_trees.specs.Tree.Tree.{Let}
 use Rattle.lq_trees.specs.Fresh.{is_listed}
 use Rattle.lq_calculus.specs.Declarations.{Env as Environment}
 use Rattle.lq_terms.specs.declared.nodes.NameId.{NameId}
@@ -15,8 +15,8 @@ use Rattle.lq_solving.specs.Kept.{IsStore, StandsIn, Stands}
 use Rattle.lq_solving.specs.Elaboration.{Givens}
 use Rattle.lq_solving.proofs.Later.{reads_let}
 use Rattle.lq_solving.proofs.StandsLaws.{StandsUnder, domain_stands, rest_stands}
-use Rattle.lq_evars.specs.Places.{Places, HasStore, HasNameOr, store_of}
-use Rattle.lq_evars.proofs.Growing.{store_of-grown, HasStore-grown}
+use Rattle.lq_evars.specs.Places.{Places, HasNameOr, store_of}
+use Rattle.lq_evars.proofs.Growing.{store_of-grown}
 use Rattle.lq_tactics.specs.Rows.{Done}
 use Rattle.lq_tactics.specs.Primitives.{under_product, under_value, intro_on, is_binder}
 use Rattle.lq_prims.specs.declared.binders.Binder.{Binder}

@@ -13,3 +13,4 @@ pub mod IntroNames
 pub mod EnterLaws
 pub mod LaterLaws
 pub mod IntroLaws
+pub mod RowLaws

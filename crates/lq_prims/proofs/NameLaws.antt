@@ -1,5 +1,5 @@
 -- Names of new hypotheses.
-use Rattle.std.proofs.Common.{◌≡◌, ◌<◌, ◌≤◌, ◌+◌, ◌^◌, ◌∙◌, ℕ, refl, sym, ap, ap₂, arith, Bool, true, false, ◌||◌, List, [], ◌∷◌, length, drop, map, get_or, Result, Ok, Err}
+use Rattle.std.proofs.Common.{◌≡◌, ◌<◌, ◌≤◌, ◌+◌, ◌^◌, ◌∙◌, ℕ, refl, sym, ap, ap₂, arith, true, false, ◌||◌, List, [], ◌∷◌, length, drop, get_or, Result}
 use Rattle.std.proofs.Common.{subst as along}
 use Rattle.std.proofs.lemmas.List.{drop_more, drop_all, length-map}
 use Rattle.std.specs.Prelude.{IfOk, codes}
@@ -8,7 +8,7 @@ use Rattle.lq_trees.specs.Fresh.{is_listed, fresh, fresh_of}
 use Rattle.lq_terms.specs.declared.nodes.Hypothesis.{Hypothesis}
 use Rattle.lq_terms.specs.declared.nodes.NameId.{NameId}
 use Rattle.lq_terms.specs.declared.nodes.NoMemory.{NoMemory}
-use Rattle.lq_terms.specs.Terms.{Terms, HasName, IsName, Grows, text_of}
+use Rattle.lq_terms.specs.Terms.{Terms, IsName, Grows, text_of}
 use Rattle.lq_terms.specs.Contexts.{HasContext, context_of}
 use Rattle.lq_evars.proofs.Growing.{context_grown}
 use Rattle.lq_solving.specs.Stores.{names_in}

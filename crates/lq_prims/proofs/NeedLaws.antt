@@ -1,17 +1,16 @@
 -- Terms that a row needs, by the calls of lower layers.
-use Rattle.std.proofs.Common.{◌≡◌, ◌∙◌, ℕ, suc, refl, sym, ap, arith, List, [], ◌∷◌, ◌++◌, Option, Some, None, Result, Ok, Err}
+use Rattle.std.proofs.Common.{◌≡◌, ◌∙◌, ℕ, refl, sym, ap, Option, Some, None, Result, Ok, Err}
 use Rattle.std.proofs.Common.{subst as along}
 use Rattle.lq_trees.specs.declared.Fit.{Fit}
-use Rattle.lq_trees.specs.Tree.{Name, Tree, Context}
+use Rattle.lq_trees.specs.Tree.{Tree, Context}
 use Rattle.lq_trees.specs.Size.{fit}
-use Rattle.lq_trees.specs.Hypotheses.{HoldsOnly}
 use Rattle.lq_trees.specs.Rules.{Rules}
-use Rattle.lq_trees.specs.Ticks.{gives, fails, cut, tick, ◌>>=◌, Outcome, done, failed, steps_out, within, ComesTo}
-use Rattle.lq_trees.proofs.Outcomes.{comes_then, comes_failed, comes_spent, comes_gives, comes_fails}
+use Rattle.lq_trees.specs.Ticks.{gives, fails, cut, tick, ◌>>=◌, done, failed, ComesTo}
+use Rattle.lq_trees.proofs.Outcomes.{comes_then, comes_spent, comes_gives, comes_fails}
 use Rattle.lq_calculus.specs.Contraction.{whnf, contract, beta_normal}
 use Rattle.lq_calculus.specs.Checking.{KernelFault}
 use Rattle.lq_terms.specs.declared.nodes.TermId.{TermId}
-use Rattle.lq_terms.specs.Terms.{Terms, HasTerm, tree_of}
+use Rattle.lq_terms.specs.Terms.{Terms, tree_of}
 use Rattle.lq_reduce.specs.declared.faults.ReduceFault.{ReduceFault}
 use Rattle.lq_reduce.specs.Answers.{Reduces}
 use Rattle.lq_beta.specs.declared.faults.BetaFault.{BetaFault}
@@ -25,9 +24,9 @@ use Rattle.lq_unify.proofs.ReduceSteps.{form_done, form_out}
 use Rattle.lq_tactics.specs.Rows.{RowFault, Doing, Scene, by_elab, by_store_call, needed, needed_form, store_work, new_goal, goals_exceeded}
 use Rattle.lq_typing.specs.declared.faults.ElabFault.{ElabFault}
 use Rattle.lq_prims.specs.declared.faults.PrimFault.{PrimFault}
-use Rattle.lq_prims.specs.Refusals.{store_refusal, reduce_refusal, beta_refusal, at_fault, ticks_spent}
+use Rattle.lq_prims.specs.Refusals.{store_refusal, reduce_refusal, beta_refusal, ticks_spent}
 use Rattle.lq_prims.specs.Working.{Refuses, Does, Tells}
-use Rattle.lq_prims.proofs.WorkLaws.{refuses_at, refuses_at_once, no_memory, does_then, does_same, does_at_once, does_after, refuses_first, refuses_same}
+use Rattle.lq_prims.proofs.WorkLaws.{refuses_at, refuses_at_once, no_memory, does_then, does_same, does_at_once, refuses_first, refuses_same}
 use Rattle.lq_prims.proofs.GiveLaws.{reads_is, reads_not}
 use Rattle.lq_prims.proofs.BinderLaws.{form_fits, form_large, form_deep}
 

@@ -1,11 +1,10 @@
 -- What a new goal leaves, by the calls that make it.
-use Rattle.std.proofs.Common.{◌≡◌, ◌∙◌, ℕ, suc, refl, sym, ap, ap₂, arith, List, [], Option, Some, None, Result, Ok, Err}
+use Rattle.std.proofs.Common.{◌≡◌, ℕ, suc, refl, sym, List, [], None, Result, Ok, Err}
 use Rattle.std.proofs.Common.{subst as along}
-use Rattle.lq_trees.specs.Tree.{Name, Tree, Context}
+use Rattle.lq_trees.specs.Tree.{Tree, Context}
 use Rattle.lq_trees.specs.Tree.Tree.{Rel}
 use Rattle.lq_trees.specs.Hypotheses.{HoldsOnly}
-use Rattle.lq_trees.specs.Ticks.{gives, ◌>>=◌, done, ComesTo}
-use Rattle.lq_calculus.specs.Contraction.{beta_normal}
+use Rattle.lq_trees.specs.Ticks.{gives, done, ComesTo}
 use Rattle.lq_calculus.proofs.ConvSound.{Gives}
 use Rattle.lq_terms.specs.declared.nodes.Hypothesis.{Hypothesis}
 use Rattle.lq_terms.specs.declared.nodes.TermId.{TermId}
@@ -17,14 +16,14 @@ use Rattle.lq_evars.specs.declared.store.StoreFault.{StoreFault}
 use Rattle.lq_evars.specs.Places.{Places, HasStore, store_of, variable_of, one_more, Makes}
 use Rattle.lq_evars.proofs.Growing.{store_of-grown, HasStore-grown, context_grown}
 use Rattle.lq_evars.proofs.Having.{more_has}
-use Rattle.lq_tactics.specs.Rows.{Doing, Scene, needed, needed_form, store_work, new_goal}
+use Rattle.lq_tactics.specs.Rows.{Scene, needed, new_goal}
 use Rattle.lq_tactics.proofs.RowsKept.{IsMade, goal_made, needed_is}
 use Rattle.lq_prims.specs.declared.faults.PrimFault.{PrimFault}
 use Rattle.lq_prims.specs.Refusals.{store_refusal}
 use Rattle.lq_prims.specs.Scenes.{scene_by, normal_work}
-use Rattle.lq_prims.specs.Working.{Refuses, Does, Tells}
+use Rattle.lq_prims.specs.Working.{Refuses}
 use Rattle.lq_prims.proofs.WorkLaws.{comes_is_given}
-use Rattle.lq_prims.proofs.NeedLaws.{variable, goal_work, goal_does, make_ok, make_err}
+use Rattle.lq_prims.proofs.NeedLaws.{variable, goal_does, make_ok, make_err}
 
 -- a term as read holds the hypotheses of its context alone
 pub read_holds : (s : Store) (g : Context) (t u : Tree) → StandsIn s g t → needed (read s t) ≡ gives u → HoldsOnly (names_in g) u

@@ -1,30 +1,28 @@
 -- What holds of the scene of a goal.
-use Rattle.std.proofs.Common.{◌≡◌, ◌<◌, ℕ, zero, suc, refl, sym, ◌∙◌, ap, arith, List, [], ◌∷◌, length, Option, Some, None}
+use Rattle.std.proofs.Common.{◌≡◌, ◌<◌, ℕ, zero, suc, refl, sym, ◌∙◌, ap, arith, List, [], ◌∷◌, length, Some, None}
 use Rattle.std.proofs.Common.{subst as along}
 use Rattle.std.specs.Prelude.{slice_get, option_map}
 use Rattle.std.specs.List.{AllByRecursion}
-use Rattle.lq_trees.specs.Tree.{Name, Tree, Context}
-use Rattle.lq_calculus.specs.Declarations.{Env as Environment}
+use Rattle.lq_trees.specs.Tree.{Name}
 use Rattle.lq_terms.specs.declared.nodes.NameId.{NameId}
 use Rattle.lq_terms.specs.declared.nodes.TermId.{TermId}
 use Rattle.lq_terms.specs.declared.nodes.Hypothesis.{Hypothesis}
 use Rattle.lq_terms.specs.Terms.{Terms, Grows, tree_of}
-use Rattle.lq_terms.specs.Contexts.{HasContext, context_of, hypothesis_of}
+use Rattle.lq_terms.specs.Contexts.{HasContext, context_of}
 use Rattle.lq_env.specs.declared.environment.Declared.{Declared}
 use Rattle.lq_env.specs.Environments.{env_of}
 use Rattle.lq_env.proofs.Grown.{env_of-grown, IsEnv-grown}
-use Rattle.lq_solving.specs.Stores.{Store, Variable as TreeVariable, read, count, names_at, names_in}
+use Rattle.lq_solving.specs.Stores.{Variable as TreeVariable, read, count, names_at, names_in}
 use Rattle.lq_solving.specs.Claims.{ArePlainDeclarations}
-use Rattle.lq_solving.specs.Kept.{IsContext, IsVariable, StandsIn, Stands, IsStore}
+use Rattle.lq_solving.specs.Kept.{IsContext, IsVariable, StandsIn, IsStore}
 use Rattle.lq_solving.specs.Elaboration.{Givens}
 use Rattle.lq_solving.proofs.InstanceLaws.{length_map}
 use Rattle.lq_solving.proofs.KindLaws.{all_get}
 use Rattle.lq_solving.proofs.Moving.{get_map}
 use Rattle.lq_evars.specs.declared.store.Variable.{Variable}
-use Rattle.lq_evars.specs.Places.{Places, HasVariable, HasStore, store_of, variable_of}
-use Rattle.lq_evars.proofs.Growing.{store_of-grown, HasStore-grown, context_grown}
+use Rattle.lq_evars.specs.Places.{Places, HasVariable, store_of, variable_of}
+use Rattle.lq_evars.proofs.Growing.{store_of-grown, HasStore-grown}
 use Rattle.lq_typing.specs.Sites.{IsSite}
-use Rattle.lq_tactics.specs.Rows.{Scene}
 use Rattle.lq_tactics.proofs.RowsKept.{IsScene, AreGiven, IsSceneOf, scene_kept, kind_reads}
 use Rattle.lq_prims.specs.Scenes.{scene_in, context_in, context_at, IsGoal, IsDeclared, IsPlaced}
 

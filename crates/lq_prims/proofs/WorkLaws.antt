@@ -3,7 +3,7 @@ use Rattle.std.proofs.Common.{◌≡◌, ◌∙◌, ℕ, suc, refl, sym, ap, ari
 use Rattle.std.proofs.Common.{subst as along}
 use Rattle.std.specs.Result.{IsErrAnd}
 use Rattle.std.proofs.lemmas.Result.{err_from_is_err_and}
-use Rattle.lq_trees.specs.Ticks.{Paid, gives, fails, ◌>>=◌, Outcome, done, failed, steps_out, within, ComesTo}
+use Rattle.lq_trees.specs.Ticks.{gives, fails, ◌>>=◌, done, failed, steps_out, within, ComesTo}
 use Rattle.lq_trees.proofs.Outcomes.{comes_then, comes_failed, comes_spent, comes_gives, comes_fails}
 use Rattle.lq_calculus.proofs.ConvSound.{Gives, done_gives}
 use Rattle.lq_terms.specs.Terms.{Terms}

@@ -22,6 +22,7 @@ use crate::faults::PrimFault;
 use crate::giving::give;
 use crate::naming::intro_name;
 use crate::needing::head;
+use crate::rooms::has_room;
 use lq_env::Env;
 use lq_evars::Store;
 use lq_terms::{Bank, NameId, Steps, TermId, Work};
@@ -138,5 +139,38 @@ fn do_intro<L: Ledger>(
     match binder_of(work.bank, form) {
         Some(binder) => introduced(work, store, goal, written, binder, steps),
         None => Err(PrimFault::NothingToIntroduce),
+    }
+}
+
+/// `intro`: the goal gets its body, and the goal under the binder is answered. It is refused as `NothingToIntroduce` where the weak head
+/// form of its type has no binder, and as `NameInUse` where a hypothesis has the name that is written.
+pub(crate) fn intro<L: Ledger>(
+    work: &mut Work<'_, '_>,
+    env: &Env,
+    store: &mut Store,
+    goal: u32,
+    kind: TermId,
+    written: Option<NameId>,
+    steps: &mut Steps<L>,
+) -> Result<u32, PrimFault>
+    requires placed { IsPlaced work.old.bank.now env.now store.old goal kind }
+    requires written { HasNameOr work.old.bank.now written }
+    ensures answer { (vs : Givens) → Does work.new.bank.now (λ k. step_by (store_of work.new.bank.now store.new) (k ∷ [])) result
+        (λ n. ended (scene_in work.old.bank.now env.now store.old goal kind vs n)
+        (do_intro (scene_in work.old.bank.now env.now store.old goal kind vs n) (option_map (text_of work.old.bank.now) written)))
+        work.old.ticks.now.left work.new.ticks.now.left }
+    ensures has { OnOk result (HasStore work.new.bank.now store.new) }
+    ensures kept { OnOk result (IsStore (store_of work.new.bank.now store.new)) }
+    ensures same_bank { work.new.bank.ghost_name ≡ work.old.bank.ghost_name }
+    ensures same_ticks { work.new.ticks.ghost_name ≡ work.old.ticks.ghost_name }
+    ensures grows { Grows work.old.bank.now work.new.bank.now }
+    ensures budget { work.new.ticks.now.left + work.new.ticks.now.spent ≡ work.old.ticks.now.left + work.old.ticks.now.spent }
+    ensures counted { steps.new + work.old.ticks.now.spent ≡ steps.old + work.new.ticks.now.spent }
+{
+    has_room(store, goal);
+    let reached = do_intro(work, env, store, goal, kind, written, steps)?;
+    match give(work.bank, store, goal, reached.body) {
+        Ok(()) => Ok(reached.goal),
+        Err(fault) => Err(fault),
     }
 }

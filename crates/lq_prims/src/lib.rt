@@ -12,6 +12,7 @@ mod introducing;
 mod naming;
 mod needing;
 mod new_goals;
+mod rooms;
 mod standing;
 
 pub use faults::PrimFault;

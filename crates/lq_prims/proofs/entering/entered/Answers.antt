@@ -1,10 +1,9 @@
-use Rattle.std.proofs.Common.{◌≡◌, ◌∙◌, ap, sym, refl, Ok, Err}
+use Rattle.std.proofs.Common.{◌∙◌}
 use Rattle.lq_terms.specs.Terms.{tree_of}
 use Rattle.lq_evars.specs.Places.{store_of}
 use Rattle.lq_evars.proofs.Growing.{HasStore-grown}
 use Rattle.lq_prims.proofs.SceneLaws.{goal_context, goal_grown}
 use Rattle.lq_prims.proofs.EnterLaws.{longer_has, longer_stands, rest_stands_in, entered_does}
-use Rattle.lq_prims.proofs.WorkLaws.{out_of_memory}
 use Rattle.lq_prims.proofs.entering.entered.Goals as goal
 
 pub open-requires-clause-name : goal.open-requires-clause-name

@@ -1,11 +1,10 @@
-use Rattle.std.proofs.Common.{◌≡◌, ◌∙◌, ap, ap₂, sym, refl, IfOk, List, [], ◌∷◌, ◌++◌}
+use Rattle.std.proofs.Common.{◌∙◌, ap, ap₂, refl, IfOk, [], ◌∷◌, ◌++◌}
 use Rattle.std.proofs.Common.{subst as along}
 use Rattle.lq_trees.specs.Tree.{Tree}
 use Rattle.lq_trees.specs.Tree.Tree.{Rel, Evar}
 use Rattle.lq_calculus.specs.Declarations.{variables}
 use Rattle.lq_terms.specs.Terms.{IsTerm}
-use Rattle.lq_terms.specs.Contexts.{context_of}
-use Rattle.lq_solving.specs.Stores.{instance_list, count}
+use Rattle.lq_solving.specs.Stores.{count}
 use Rattle.lq_evars.specs.Places.{store_of}
 use Rattle.lq_prims.specs.Scenes.{context_at}
 use Rattle.lq_prims.proofs.SceneLaws.{goal_context}

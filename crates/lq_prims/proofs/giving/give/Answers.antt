@@ -1,4 +1,4 @@
-use Rattle.std.proofs.Common.{rules, ◌≡◌, ◌∙◌, true, false, sym, subst, ap, arith, Ok, Err}
+use Rattle.std.proofs.Common.{rules, ◌≡◌, ◌∙◌, true, false, sym, subst, arith, Ok, Err}
 use Rattle.std.specs.Prelude.{is_some}
 use Rattle.lq_terms.specs.Terms.{tree_of}
 use Rattle.lq_solving.specs.Occurs.{holds_variable}

@@ -1,4 +1,4 @@
-use Rattle.std.proofs.Common.{◌≡◌, ◌∙◌, sym, ap}
+use Rattle.std.proofs.Common.{◌∙◌, sym, ap}
 use Rattle.std.proofs.Common.{subst as along}
 use Rattle.lq_terms.specs.Terms.{tree_of}
 use Rattle.lq_env.specs.Environments.{env_of}

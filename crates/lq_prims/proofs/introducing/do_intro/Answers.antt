@@ -1,4 +1,4 @@
-use Rattle.std.proofs.Common.{◌≡◌, ℕ, suc, sym, []}
+use Rattle.std.proofs.Common.{ℕ, suc, sym, []}
 use Rattle.std.specs.Prelude.{option_map}
 use Rattle.std.proofs.Common.{subst as along}
 use Rattle.lq_terms.specs.Terms.{text_of, tree_of}

@@ -1,10 +1,8 @@
-use Rattle.std.proofs.Common.{◌≡◌, ◌∙◌, sym, ap, true, false}
+use Rattle.std.proofs.Common.{◌∙◌, sym, ap}
 use Rattle.std.proofs.Common.{subst as along}
 use Rattle.std.specs.Prelude.{option_map}
-use Rattle.lq_trees.specs.Fresh.{is_listed}
 use Rattle.lq_terms.specs.Contexts.{context_of}
 use Rattle.lq_terms.specs.Terms.{text_of}
-use Rattle.lq_solving.specs.Stores.{names_in}
 use Rattle.lq_evars.specs.Places.{HasNameOr}
 use Rattle.lq_prims.proofs.IntroNames.{fresh_named, written_free, written_used, count_fresh}
 use Rattle.lq_prims.proofs.naming.intro_name.Goals as goal

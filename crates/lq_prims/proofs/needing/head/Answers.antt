@@ -1,4 +1,3 @@
-use Rattle.std.proofs.Common.{sym, Ok, Err}
 use Rattle.lq_calculus.specs.Declarations.{rules_of}
 use Rattle.lq_terms.specs.Contexts.{context_of}
 use Rattle.lq_terms.specs.Terms.{tree_of}

@@ -1,4 +1,3 @@
-use Rattle.std.proofs.Common.{◌≡◌, ap, sym, Ok, Err}
 use Rattle.lq_terms.specs.Terms.{tree_of}
 use Rattle.lq_prims.proofs.NeedLaws.{normal_then, normal_err}
 use Rattle.lq_prims.proofs.needing.normal.Goals as goal

@@ -1,8 +1,8 @@
-use Rattle.std.proofs.Common.{◌≡◌, ◌∙◌, sym, refl, Ok, Err}
+use Rattle.std.proofs.Common.{sym}
 use Rattle.std.proofs.Common.{subst as along}
 use Rattle.lq_trees.specs.Hypotheses.{HoldsOnly}
-use Rattle.lq_terms.specs.Contexts.{context_of, HasContext}
-use Rattle.lq_terms.specs.Terms.{HasTerm, tree_of}
+use Rattle.lq_terms.specs.Contexts.{context_of}
+use Rattle.lq_terms.specs.Terms.{tree_of}
 use Rattle.lq_terms.proofs.Growth.{Grows-trans}
 use Rattle.lq_solving.specs.Stores.{names_in}
 use Rattle.lq_evars.specs.Places.{store_of}
