@@ -14,3 +14,4 @@ pub mod EnterLaws
 pub mod LaterLaws
 pub mod IntroLaws
 pub mod RowLaws
+pub mod PlaceLaws

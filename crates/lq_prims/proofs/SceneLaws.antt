@@ -7,14 +7,15 @@ use Rattle.lq_trees.specs.Tree.{Name}
 use Rattle.lq_terms.specs.declared.nodes.NameId.{NameId}
 use Rattle.lq_terms.specs.declared.nodes.TermId.{TermId}
 use Rattle.lq_terms.specs.declared.nodes.Hypothesis.{Hypothesis}
-use Rattle.lq_terms.specs.Terms.{Terms, Grows, tree_of}
+use Rattle.lq_terms.specs.Terms.{Terms, HasTerm, Grows, tree_of}
 use Rattle.lq_terms.specs.Contexts.{HasContext, context_of}
 use Rattle.lq_env.specs.declared.environment.Declared.{Declared}
 use Rattle.lq_env.specs.Environments.{env_of}
 use Rattle.lq_env.proofs.Grown.{env_of-grown, IsEnv-grown}
 use Rattle.lq_solving.specs.Stores.{Variable as TreeVariable, read, count, names_at, names_in}
 use Rattle.lq_solving.specs.Claims.{ArePlainDeclarations}
-use Rattle.lq_solving.specs.Kept.{IsContext, IsVariable, StandsIn, IsStore}
+use Rattle.lq_solving.specs.Kept.{IsContext, IsOver, IsVariable, StandsIn, IsStore}
+use Rattle.lq_trees.specs.Index.{Within}
 use Rattle.lq_solving.specs.Elaboration.{Givens}
 use Rattle.lq_solving.proofs.InstanceLaws.{length_map}
 use Rattle.lq_solving.proofs.KindLaws.{all_get}
@@ -70,6 +71,22 @@ module _ (bank : Terms) (s : Places) (k : ℕ) (q : IsGoal bank s k) where
       let e = f v.0 v.1 in record {
         has = along (HasContext bank) (sym e) h.context;
         is = ap (context_of bank) e ∙ sym (ap context_in (get_map (variable_of bank) s.variables k ∙ ap (option_map (variable_of bank)) v.1));
+      }
+
+  -- the goal's type lies in the bank and can be read
+  pub record HasGoalType (A : TermId) : Type 0 where
+    pub has : HasTerm bank A
+    pub over : IsOver (store_of bank s).variables (tree_of bank A)
+    pub within : Within 0 (tree_of bank A)
+
+  pub goal_type : (A : TermId) → ((v : Variable) → slice_get s.variables k ≡ Some v → A ≡ v.kind) → ((v : TreeVariable) → slice_get (store_of bank s).variables k ≡ Some v → tree_of bank A ≡ v.kind) → HasGoalType A
+  goal_type A f g =
+      let v = something s.variables k q.goal in
+      let h = all_at (HasVariable bank) s.variables k v.0 q.store.variables v.1 in
+      let e = g there.0 there.1 in record {
+        has = along (HasTerm bank) (sym (f v.0 v.1)) h.kind;
+        over = along (IsOver (store_of bank s).variables) (sym e) stands.1.over;
+        within = along (Within 0) (sym e) stands.1.within;
       }
 
 -- the same in a bank that has grown

@@ -3,3 +3,4 @@ pub mod Working
 pub mod Scenes
 pub mod Binders
 pub mod Reaching
+pub mod Placing

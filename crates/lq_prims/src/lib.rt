@@ -12,6 +12,7 @@ mod introducing;
 mod naming;
 mod needing;
 mod new_goals;
+mod placing;
 mod rooms;
 mod standing;
 
