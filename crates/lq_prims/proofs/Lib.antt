@@ -15,3 +15,4 @@ pub mod LaterLaws
 pub mod IntroLaws
 pub mod RowLaws
 pub mod PlaceLaws
+pub mod ShelfLaws

@@ -4,3 +4,4 @@ pub mod Scenes
 pub mod Binders
 pub mod Reaching
 pub mod Placing
+pub mod Listing

@@ -9,6 +9,7 @@ mod faults;
 mod giving;
 mod holding;
 mod introducing;
+mod listing;
 mod naming;
 mod needing;
 mod new_goals;
