@@ -16,3 +16,4 @@ pub mod IntroLaws
 pub mod RowLaws
 pub mod PlaceLaws
 pub mod ShelfLaws
+pub mod FinishLaws

@@ -5,3 +5,4 @@ pub mod Binders
 pub mod Reaching
 pub mod Placing
 pub mod Listing
+pub mod Finishing

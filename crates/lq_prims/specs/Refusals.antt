@@ -9,6 +9,7 @@ use Rattle.lq_beta.specs.declared.faults.BetaFault.{BetaFault}
 use Rattle.lq_evars.specs.declared.store.StoreFault.{StoreFault}
 use Rattle.lq_typing.specs.declared.faults.ElabFault.{ElabFault}
 use Rattle.lq_typing.specs.Refusals.{IsElabFault}
+use Rattle.lq_goals.specs.declared.proof.GoalFault.{GoalFault}
 use Rattle.lq_tactics.specs.Rows.{RowFault, nothing_to_introduce, used_name, variables_left, cannot_apply, not_determined, no_assumption, not_inductive, no_constructor, wrong_number, no_argument, not_an_equality, do_not_unify, by_elab, by_store_call, goals_exceeded}
 use Rattle.lq_prims.specs.declared.faults.PrimFault.{PrimFault}
 
@@ -37,6 +38,12 @@ unify_refusal UnifyFault.NoMemory = PrimFault.NoMemory
 abbrev pub beta_refusal : BetaFault → PrimFault
 beta_refusal BetaFault.StepsOut = PrimFault.Elab ElabFault.StepsOut
 beta_refusal BetaFault.NoMemory = PrimFault.NoMemory
+
+-- a fault of the lists of goals as one of a primitive
+abbrev pub list_refusal : GoalFault → PrimFault
+list_refusal GoalFault.NothingFocused = PrimFault.TooManyGoals
+list_refusal GoalFault.TooManyGoals = PrimFault.TooManyGoals
+list_refusal GoalFault.NoMemory = PrimFault.NoMemory
 
 -- how a row's work stops: at a fault, for want of a tick, for want of memory
 pub data Stop : Type 0 where

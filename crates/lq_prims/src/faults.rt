@@ -2,6 +2,7 @@
 
 use lq_beta::BetaFault;
 use lq_evars::StoreFault;
+use lq_goals::GoalFault;
 use lq_reduce::ReduceFault;
 use lq_terms::{NameId, NoMemory, TermId};
 use lq_typing::ElabFault;
@@ -124,5 +125,19 @@ impl From<ElabFault> for PrimFault {
 
     fn from(fault: ElabFault) -> PrimFault {
         PrimFault::Elab(fault)
+    }
+}
+
+impl From<GoalFault> for PrimFault {
+    ghost use Rattle.std.specs.Prelude.{◌≡◌};
+    ghost use Rattle.lq_prims.specs.Refusals.{list_refusal};
+
+    ghost from_gives = { λ f e. e ≡ list_refusal f };
+
+    fn from(fault: GoalFault) -> PrimFault {
+        match fault {
+            GoalFault::NoMemory => PrimFault::NoMemory,
+            _ => PrimFault::TooManyGoals,
+        }
     }
 }

@@ -6,6 +6,7 @@ mod binders;
 mod comparing;
 mod entering;
 mod faults;
+mod finishing;
 mod giving;
 mod holding;
 mod introducing;
