@@ -17,3 +17,4 @@ pub mod RowLaws
 pub mod PlaceLaws
 pub mod ShelfLaws
 pub mod FinishLaws
+pub mod RunLaws
