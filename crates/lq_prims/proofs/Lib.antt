@@ -18,3 +18,4 @@ pub mod PlaceLaws
 pub mod ShelfLaws
 pub mod FinishLaws
 pub mod RunLaws
+pub mod EqualityLaws

@@ -6,3 +6,4 @@ pub mod Reaching
 pub mod Placing
 pub mod Listing
 pub mod Finishing
+pub mod Equalities

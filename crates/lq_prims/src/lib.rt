@@ -5,6 +5,7 @@ mod assumption;
 mod binders;
 mod comparing;
 mod entering;
+mod equalities;
 mod faults;
 mod finishing;
 mod giving;
