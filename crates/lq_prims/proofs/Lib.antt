@@ -19,3 +19,4 @@ pub mod ShelfLaws
 pub mod FinishLaws
 pub mod RunLaws
 pub mod EqualityLaws
+pub mod UnifyLaws

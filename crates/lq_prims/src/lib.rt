@@ -18,5 +18,6 @@ mod new_goals;
 mod placing;
 mod rooms;
 mod standing;
+mod unifying;
 
 pub use faults::PrimFault;
