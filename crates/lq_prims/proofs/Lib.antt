@@ -20,3 +20,4 @@ pub mod FinishLaws
 pub mod RunLaws
 pub mod EqualityLaws
 pub mod UnifyLaws
+pub mod ToldLaws

@@ -1,24 +1,27 @@
 //! Terms that unify.
 
-ghost use Rattle.std.specs.Prelude.{◌≡◌, ◌+◌, false, IfOk, OnOk, OnErr};
+ghost use Rattle.std.specs.Prelude.{◌≡◌, ◌+◌, ◌∷◌, [], ℕ, false, IfOk, OnOk, OnErr};
+ghost use Rattle.lq_trees.specs.Index.{Within};
 ghost use Rattle.lq_terms.specs.Terms.{HasTerm, tree_of, Grows};
 ghost use Rattle.lq_terms.specs.Contexts.{context_of};
 ghost use Rattle.lq_calculus.specs.Declarations.{rules_of};
 ghost use Rattle.lq_env.specs.Environments.{env_of};
-ghost use Rattle.lq_solving.specs.Kept.{IsStore, StandsIn};
+ghost use Rattle.lq_solving.specs.Kept.{IsOver, IsStore, StandsIn};
+ghost use Rattle.lq_solving.specs.Stores.{read};
 ghost use Rattle.lq_solving.specs.ElabFaults.{by_unify};
 ghost use Rattle.lq_solving.specs.Unification.{unify};
 ghost use Rattle.lq_evars.specs.Places.{HasStore, store_of};
 ghost use Rattle.lq_solving.proofs.Later.{Later};
 ghost use Rattle.lq_typing.specs.Sites.{IsSite};
 ghost use Rattle.lq_unify.specs.Frames.{answer_of};
-ghost use Rattle.lq_tactics.specs.Rows.{elab_work};
-ghost use Rattle.lq_prims.specs.Working.{Does};
+ghost use Rattle.lq_tactics.specs.Rows.{Done, elab_work, told, do_not_unify};
+ghost use Rattle.lq_prims.specs.Working.{Refuses, Does};
 
 use crate::faults::PrimFault;
+use crate::needing::needed;
 use lq_env::Env;
 use lq_evars::Store;
-use lq_terms::{Context, Steps, TermId, Work};
+use lq_terms::{Bank, Context, Steps, TermId, Work};
 use lq_unify::unify;
 use std::sync::ledger::Ledger;
 
@@ -57,5 +60,30 @@ pub(crate) fn unifies<L: Ledger>(
     match unify(work, env, store, context, left, right, steps) {
         Ok(said) => Ok(said),
         Err(fault) => Err(PrimFault::from(fault)),
+    }
+}
+
+/// The fault that two sides do not unify: it names them as they read, or tells that the left one, or else the right one, passes a limit.
+pub(crate) fn apart(bank: &mut Bank<'_>, store: &Store, left: TermId, right: TermId) -> PrimFault
+    requires store { HasStore bank.old store.now }
+    requires kept { IsStore (store_of bank.old store.now) }
+    requires left { HasTerm bank.old left }
+    requires left_over { IsOver (store_of bank.old store.now).variables (tree_of bank.old left) }
+    requires left_closed { Within 0 (tree_of bank.old left) }
+    requires right { HasTerm bank.old right }
+    requires right_over { IsOver (store_of bank.old store.now).variables (tree_of bank.old right) }
+    requires right_closed { Within 0 (tree_of bank.old right) }
+    ensures answer { (b : ℕ) → Refuses {A = Done} bank.new result
+        (λ n. told (read (store_of bank.old store.now) (tree_of bank.old left) ∷ read (store_of bank.old store.now) (tree_of bank.old right) ∷ [])
+        (do_not_unify (read (store_of bank.old store.now) (tree_of bank.old left)) (read (store_of bank.old store.now) (tree_of bank.old right)))) b b }
+    ensures grows { Grows bank.old bank.new }
+{
+    let left = match needed(bank, store, left) {
+        Ok(read) => read,
+        Err(fault) => return fault,
+    };
+    match needed(bank, store, right) {
+        Ok(right) => PrimFault::DoNotUnify(left, right),
+        Err(fault) => fault,
     }
 }
