@@ -1,8 +1,10 @@
 //! Declarations and statements, from their terms as they are written.
 #![tactic(auto)]
 
+mod defining;
 mod faults;
 mod terms;
 
+pub use defining::define;
 pub use faults::stop_of;
-pub use terms::{term_in, type_in};
+pub use terms::{Typed, term_in, type_in};
