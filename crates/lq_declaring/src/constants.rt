@@ -21,8 +21,8 @@ use lq_print::{Cause, SentenceCause};
 use lq_terms::{Bank, NameId, Steps, TermId, Work};
 use std::sync::ledger::Ledger;
 
-/// Each variable of a store must have a value.
-pub(crate) fn all_solved(store: &Store) -> Result<(), Stop>
+/// Each variable of a store must have a value. Refused as `Unresolved` with how many have none. It takes no memory.
+pub fn all_solved(store: &Store) -> Result<(), Stop>
     ensures { (bank : Terms) → IsStore (store_of bank store.now) → IsSolved (store_of bank store.now) result }
 {
     let count = unsolved_from(store, 0);

@@ -1,3 +1,5 @@
 pub mod FaultLaws
 pub mod FindLaws
+pub mod SolvedLaws
+pub mod StatementLaws
 pub mod DefineLaws

@@ -3,8 +3,10 @@
 
 mod defining;
 mod faults;
+mod stating;
 mod terms;
 
 pub use defining::define;
 pub use faults::stop_of;
+pub use stating::state;
 pub use terms::{Typed, term_in, type_in};
