@@ -2,4 +2,5 @@ pub mod FaultLaws
 pub mod FindLaws
 pub mod SolvedLaws
 pub mod StatementLaws
+pub mod SentenceLaws
 pub mod DefineLaws
