@@ -1,2 +1,3 @@
 pub mod SessionLaws
 pub mod ShowLaws
+pub mod DeclareLaws

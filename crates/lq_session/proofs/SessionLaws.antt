@@ -43,7 +43,7 @@ with_proof bank s f o e = ap (λ z. by_proof (session_of bank s) f (elim z [ Non
 
 -- ---- what work comes to
 
-came_by : {A : Type 0} (s : trees.Session) (f : ℕ → Work A) (k : A → Done) (o : Outcome ScriptCause A) → ComesTo f s.kernel o → worked s s.env f k ≡ came_to s s.env k o
+pub came_by : {A : Type 0} (s : trees.Session) (f : ℕ → Work A) (k : A → Done) (o : Outcome ScriptCause A) → ComesTo f s.kernel o → worked s s.env f k ≡ came_to s s.env k o
 unfolding worked
 came_by s f k o c = ap (came_to s s.env k) (c (suc s.kernel) (omega arith))
 

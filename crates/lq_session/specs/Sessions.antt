@@ -1,5 +1,9 @@
 -- Sessions by places of a bank, and what a sentence does.
-use Rattle.std.specs.Prelude.{◌≡◌, List, ℕ, [], option_map, IfSome, Result, Ok, Err}
+use Rattle.std.specs.Prelude.{◌≡◌, List, ℕ, [], option_map, IfSome, None, Result, Ok, Err}
+use Rattle.lq_trees.specs.Tree.{Name, Tree}
+use Rattle.lq_calculus.specs.Declarations.{lookup}
+use Rattle.lq_states.specs.Goals.{started}
+use Rattle.lq_terms.specs.declared.nodes.NameId.{NameId}
 use Rattle.lq_terms.specs.Terms.{Terms, HasName, text_of, tree_of}
 use Rattle.lq_env.specs.Environments.{IsEnv, env_of}
 use Rattle.lq_solving.specs.Kept.{IsStore}
@@ -15,7 +19,7 @@ use Rattle.lq_print.specs.declared.causes.Cause.{Cause}
 use Rattle.lq_print.specs.Causes.{cause_of, HasCause}
 use Rattle.lq_causes.specs.declared.stops.Stop.{Stop}
 use Rattle.lq_sessions.specs.Sessions as trees
-use Rattle.lq_sessions.specs.Sessions.{Done, refused}
+use Rattle.lq_sessions.specs.Sessions.{Done, refused, needs_none, needs_new}
 use Rattle.lq_session.specs.declared.opened.Opened.{Opened}
 use Rattle.lq_session.specs.declared.opened.Session.{Session}
 
@@ -53,3 +57,17 @@ abbrev pub print_stop : PrintFault → Stop
 print_stop (PrintFault.Unknown x) = Stop.Refused (Cause.Term (TermCause.Unknown x))
 print_stop (PrintFault.ElimForbidden x u) = Stop.Refused (Cause.Declaration (DeclarationCause.ElimForbidden x u))
 print_stop PrintFault.NoMemory = Stop.NoMemory
+
+-- a proof of a statement, with nothing done yet
+abbrev pub opened_by : Name → Tree → trees.Opened
+opened_by x A = record { name = x; statement = A; state = started A }
+
+-- no proof is open, so that what needs none is done; or it is refused
+abbrev pub MayStand : Terms → Session → Result (Unit {0}) Stop → Type 0
+MayStand bank s (Ok ok) = s.opened ≡ None
+MayStand bank s (Err stop) = (d : Done) → Does bank bank (Err stop) s s (needs_none (session_of bank s) d)
+
+-- no proof is open and the name is new, so that what needs both is done; or it is refused
+abbrev pub MayDeclare : Terms → Session → NameId → Result (Unit {0}) Stop → Type 0
+MayDeclare bank s x (Ok ok) = (s.opened ≡ None) × (lookup (env_of bank s.env) (text_of bank x) ≡ None)
+MayDeclare bank s x (Err stop) = (d : Done) → Does bank bank (Err stop) s s (needs_none (session_of bank s) (needs_new (session_of bank s) (text_of bank x) d))

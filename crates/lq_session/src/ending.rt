@@ -15,7 +15,7 @@ use lq_terms::{Bank, NameId, NoMemory, Steps, Work};
 use std::sync::ledger::Ledger;
 
 /// The line of a name that is declared.
-fn defined_line(bank: &Bank<'_>, name: NameId) -> Result<Text, NoMemory>
+pub(crate) fn defined_line(bank: &Bank<'_>, name: NameId) -> Result<Text, NoMemory>
     requires { HasName bank.now name }
     ensures { IfOk result (λ t. t ≡ is_defined (text_of bank.now name)) }
 {

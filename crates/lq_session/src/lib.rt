@@ -2,13 +2,18 @@
 #![tactic(auto)]
 
 mod aborting;
+mod allowed;
+mod defining;
 mod ending;
 mod opened;
 mod printing;
 mod showing;
+mod stating;
 
 pub use aborting::{abort_proof, begin_proof};
+pub use defining::define_constant;
 pub use ending::end_proof;
 pub use opened::{Opened, Session};
 pub use printing::print;
 pub use showing::show;
+pub use stating::state_theorem;
