@@ -33,8 +33,8 @@ pub fn all_solved(store: &Store) -> Result<(), Stop>
     }
 }
 
-/// Two terms as they read, in order.
-fn both_read(
+/// Two terms as they read, in order. Refused as `TooLarge` or `TooDeep` where one of them passes that limit, the first that does.
+pub fn both_read(
     bank: &mut Bank<'_>,
     store: &Store,
     first: TermId,

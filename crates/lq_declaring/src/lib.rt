@@ -8,7 +8,7 @@ mod rows;
 mod unsolved;
 
 pub use closing::declare_proved;
-pub use constants::{all_solved, declare_found, declare_written};
+pub use constants::{all_solved, both_read, declare_found, declare_written};
 pub use families::declare_inductive;
 pub use rows::{Row, RowFault, row_of};
 pub use unsolved::unsolved_from;

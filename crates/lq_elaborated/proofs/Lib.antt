@@ -3,4 +3,5 @@ pub mod FindLaws
 pub mod SolvedLaws
 pub mod StatementLaws
 pub mod SentenceLaws
+pub mod CheckLaws
 pub mod DefineLaws

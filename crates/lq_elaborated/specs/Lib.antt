@@ -2,3 +2,4 @@ pub mod Faults
 pub mod Finding
 pub mod Defining
 pub mod Stating
+pub mod Checking

@@ -1,11 +1,13 @@
 //! Declarations and statements, from their terms as they are written.
 #![tactic(auto)]
 
+mod checking;
 mod defining;
 mod faults;
 mod stating;
 mod terms;
 
+pub use checking::check_term;
 pub use defining::define;
 pub use faults::stop_of;
 pub use stating::state;
