@@ -1,3 +1,4 @@
 pub mod SessionLaws
 pub mod ShowLaws
 pub mod DeclareLaws
+pub mod CheckLaws

@@ -3,6 +3,7 @@
 
 mod aborting;
 mod allowed;
+mod checking;
 mod defining;
 mod ending;
 mod opened;
@@ -11,6 +12,7 @@ mod showing;
 mod stating;
 
 pub use aborting::{abort_proof, begin_proof};
+pub use checking::check;
 pub use defining::define_constant;
 pub use ending::end_proof;
 pub use opened::{Opened, Session};
