@@ -2,3 +2,4 @@ pub mod SessionLaws
 pub mod ShowLaws
 pub mod DeclareLaws
 pub mod CheckLaws
+pub mod EndLaws

@@ -38,6 +38,7 @@ pub fn end_proof<L: Ledger>(
     requires budget { work.old.ticks.now.left ≡ session.old.kernel }
     ensures answer { Does work.old.bank.now work.new.bank.now result session.old session.new (needs_proof (session_of work.old.bank.now session.old)
         (λ o. closed (session_of work.old.bank.now session.old) o opaque)) }
+    ensures session { IsSession work.new.bank.now session.new }
     ensures kept { OnErr result (session.new ≡ session.old) }
     ensures same_bank { work.new.bank.ghost_name ≡ work.old.bank.ghost_name }
     ensures same_ticks { work.new.ticks.ghost_name ≡ work.old.ticks.ghost_name }
