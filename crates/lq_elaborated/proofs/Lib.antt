@@ -2,6 +2,7 @@ pub mod FaultLaws
 pub mod FindLaws
 pub mod SolvedLaws
 pub mod FamilyLaws
+pub mod RowContexts
 pub mod StatementLaws
 pub mod SentenceLaws
 pub mod CheckLaws
