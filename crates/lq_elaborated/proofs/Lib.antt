@@ -3,6 +3,7 @@ pub mod FindLaws
 pub mod SolvedLaws
 pub mod FamilyLaws
 pub mod RowContexts
+pub mod ConstructorLaws
 pub mod StatementLaws
 pub mod SentenceLaws
 pub mod CheckLaws
