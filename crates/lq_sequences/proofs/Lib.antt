@@ -1,0 +1,2 @@
+pub mod StraightLaws
+pub mod FirstAnswers
