@@ -16,6 +16,7 @@ mod naming;
 mod needing;
 mod new_goals;
 mod placing;
+mod reflecting;
 mod rooms;
 mod standing;
 mod unifying;
