@@ -21,3 +21,4 @@ pub mod RunLaws
 pub mod EqualityLaws
 pub mod UnifyLaws
 pub mod ToldLaws
+pub mod ReflexLaws

@@ -1,12 +1,26 @@
 //! `reflexivity`: the proof that a term is equal to itself (Rocq reference manual, "Tactics").
 
-ghost use Rattle.std.specs.Prelude.{codes, IfOk};
+ghost use Rattle.std.specs.Prelude.{◌≡◌, ◌+◌, [], Some, codes, IfOk, OnOk};
+ghost use Rattle.lq_trees.specs.Tree.{Tree};
 ghost use Rattle.lq_trees.specs.Tree.Tree.{App, Ctor};
-ghost use Rattle.lq_terms.specs.Terms.{IsTerm, tree_of, Grows};
+ghost use Rattle.lq_terms.specs.Terms.{HasTerm, IsTerm, tree_of, Grows};
+ghost use Rattle.lq_env.specs.Environments.{env_of};
+ghost use Rattle.lq_solving.specs.Kept.{IsStore, StandsIn};
+ghost use Rattle.lq_solving.specs.Elaboration.{Givens};
+ghost use Rattle.lq_evars.specs.Places.{HasStore, store_of};
+ghost use Rattle.lq_tactics.specs.Rows.{done_by};
+ghost use Rattle.lq_tactics.specs.Primitives.{reflexive};
+ghost use Rattle.lq_prims.specs.Scenes.{IsDeclared, IsGoal, context_at, scene_by};
+ghost use Rattle.lq_prims.specs.Working.{Does};
 ghost use Rattle.lq_prims.specs.Equalities.{HasEquality};
 
 use crate::equalities::Equality;
-use lq_terms::{Bank, NoMemory, Node, TermId};
+use crate::faults::PrimFault;
+use crate::unifying::{apart, unifies_at};
+use lq_env::Env;
+use lq_evars::Store;
+use lq_terms::{Bank, NoMemory, Node, Steps, TermId, Work};
+use std::sync::ledger::Ledger;
 
 /// The constructor of `eq` on an equality's type and its left side.
 pub(crate) fn reflection(bank: &mut Bank<'_>, equality: Equality) -> Result<TermId, NoMemory>
@@ -18,4 +32,41 @@ pub(crate) fn reflection(bank: &mut Bank<'_>, equality: Equality) -> Result<Term
     let constructor = bank.make(Node::Ctor(family, 0))?;
     let on_kind = bank.make(Node::App(constructor, equality.kind))?;
     bank.make(Node::App(on_kind, equality.left))
+}
+
+/// The body that `reflexivity` gives on an equality: its sides unify. After a refusal for want of memory the store may have more values.
+pub(crate) fn reflexive<L: Ledger>(
+    work: &mut Work<'_, '_>,
+    env: &Env,
+    store: &mut Store,
+    goal: u32,
+    equality: Equality,
+    steps: &mut Steps<L>,
+) -> Result<TermId, PrimFault>
+    requires declared { IsDeclared work.old.bank.now env.now }
+    requires place { IsGoal work.old.bank.now store.old goal }
+    requires has { HasEquality work.old.bank.now equality }
+    requires left { StandsIn (store_of work.old.bank.now store.old) (context_at (store_of work.old.bank.now store.old) goal) (tree_of work.old.bank.now equality.left) }
+    requires right { StandsIn (store_of work.old.bank.now store.old) (context_at (store_of work.old.bank.now store.old) goal) (tree_of work.old.bank.now equality.right) }
+    ensures answer { (T t : Tree) (vs : Givens) → Does work.new.bank.now (λ u. done_by (store_of work.new.bank.now store.new) (tree_of work.new.bank.now u) []) result
+        (λ n. reflexive (scene_by (env_of work.old.bank.now env.now) (store_of work.old.bank.now store.old) goal
+        (context_at (store_of work.old.bank.now store.old) goal) T vs n) t
+        (Some (tree_of work.old.bank.now equality.kind, tree_of work.old.bank.now equality.left, tree_of work.old.bank.now equality.right)))
+        work.old.ticks.now.left work.new.ticks.now.left }
+    ensures body { IfOk result (HasTerm work.new.bank.now) }
+    ensures has { OnOk result (HasStore work.new.bank.now store.new) }
+    ensures same_bank { work.new.bank.ghost_name ≡ work.old.bank.ghost_name }
+    ensures same_ticks { work.new.ticks.ghost_name ≡ work.old.ticks.ghost_name }
+    ensures grows { Grows work.old.bank.now work.new.bank.now }
+    ensures budget { work.new.ticks.now.left + work.new.ticks.now.spent ≡ work.old.ticks.now.left + work.old.ticks.now.spent }
+    ensures counted { steps.new + work.old.ticks.now.spent ≡ steps.old + work.new.ticks.now.spent }
+{
+    match unifies_at(work, env, store, goal, equality.left, equality.right, steps) {
+        Ok(true) => {
+            let body = reflection(work.bank, equality)?;
+            Ok(body)
+        }
+        Ok(false) => Err(apart(work.bank, store, equality.left, equality.right)),
+        Err(fault) => Err(fault),
+    }
 }
