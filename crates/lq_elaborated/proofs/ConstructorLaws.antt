@@ -1,5 +1,5 @@
 -- The types of constructors, elaborated one after the other.
-use Rattle.std.proofs.Common.{◌≡◌, ◌∙◌, refl, sym, ap, subst, ℕ, List, [], ◌∷◌, ◌++◌, append_assoc, append-nil, None}
+use Rattle.std.proofs.Common.{◌≡◌, refl, sym, ap, subst, ℕ, List, [], ◌∷◌, ◌++◌, append_assoc, append-nil}
 use Rattle.lq_trees.specs.Tree.{Name, Tree, Context}
 use Rattle.lq_trees.specs.Ticks.{gives, ◌>>=◌, Outcome, done, failed, steps_out, ComesTo}
 use Rattle.lq_trees.proofs.Outcomes.{comes_gives, comes_then, comes_failed, comes_spent}

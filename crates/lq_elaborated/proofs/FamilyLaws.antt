@@ -1,11 +1,11 @@
 -- A family that is being declared, while its constructors are elaborated.
-use Rattle.std.proofs.Common.{◌≡◌, List, [], ◌∷◌, ◌++◌}
+use Rattle.std.proofs.Common.{◌≡◌, [], ◌∷◌, ◌++◌}
 use Rattle.lq_trees.specs.Tree.{Name, Tree}
 use Rattle.lq_trees.specs.Ticks.{gives}
 use Rattle.lq_calculus.specs.Declarations.{Env, arity}
 use Rattle.lq_solving.specs.Claims.{IsPlain, ArePlainDeclarations}
 use Rattle.lq_solving.specs.Kept.{IsStore, Stands}
-use Rattle.lq_solving.specs.Stores.{Store, no_variables, read, fill_values, read_values}
+use Rattle.lq_solving.specs.Stores.{Store, read, fill_values, read_values}
 use Rattle.lq_elab.proofs.PlainDeclarations.{declarations_joined}
 use Rattle.lq_sessions.specs.Declaring.{solved_work}
 use Rattle.lq_elaborated.proofs.SolvedLaws.{read_stands}

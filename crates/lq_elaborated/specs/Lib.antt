@@ -3,3 +3,4 @@ pub mod Finding
 pub mod Defining
 pub mod Stating
 pub mod Checking
+pub mod Families

@@ -1,12 +1,14 @@
 //! Declarations and statements, from their terms as they are written.
 #![tactic(auto)]
 
+mod arities;
 mod checking;
 mod defining;
 mod faults;
 mod stating;
 mod terms;
 
+pub use arities::arity_read;
 pub use checking::check_term;
 pub use defining::define;
 pub use faults::stop_of;
