@@ -1,0 +1,2 @@
+pub mod SpentLaws
+pub mod FailLaws
