@@ -1,5 +1,5 @@
 -- What a script has next, as the definition of its output goes through it.
-use Rattle.std.specs.Prelude.{◌≡◌, ℕ, [], Result, Ok, Err}
+use Rattle.std.specs.Prelude.{◌≡◌, ◌<◌, ◌≤◌, ℕ, [], Result, Ok, Err}
 use Rattle.lq_terms.specs.Terms.{Terms}
 use Rattle.lq_ast.specs.PlainCommands.{plain_sentence}
 use Rattle.lq_print.specs.Causes.{cause_of, HasCause}
@@ -24,3 +24,9 @@ abbrev pub Comes : Result Piece Stop → Runs → Type 0
 Comes (Ok p) r = (b : Parts) (s : Session) (k : ℕ) (go : ℕ → Session → Run) → r b s k go ≡ piece_run p b s k go
 Comes (Err (Stop.Refused c)) r = (bank : Terms) → HasCause bank c × ((b : Parts) (s : Session) (k : ℕ) (go : ℕ → Session → Run) → r b s k go ≡ faulted_by s k (cause_of bank c))
 Comes (Err Stop.NoMemory) r = Unit {0}
+
+-- a sentence of a text of that length ends behind a place, and in the text
+abbrev pub Lies : ℕ → ℕ → Piece → Type 0
+Lies from len (Piece.Sentence x place) = (from < place) × (place ≤ len)
+Lies from len Piece.End = Unit {0}
+Lies from len Piece.TooLong = Unit {0}

@@ -1,6 +1,6 @@
 //! The next sentence of a script, or what there is in its place.
 
-ghost use Rattle.std.specs.Prelude.{◌≡◌, ◌≤◌, ◌&&◌, nat_lt, true, false, [], length, Result, Ok, Err};
+ghost use Rattle.std.specs.Prelude.{◌≡◌, ◌<◌, ◌≤◌, ◌&&◌, ℕ, nat_lt, true, false, [], length, Result, Ok, Err, IfOk};
 ghost use Rattle.lq_grammar.specs.Cutting.{sentence, next};
 ghost use Rattle.lq_lex.specs.Pieces.{Cuts};
 ghost use Rattle.lq_ast.specs.Commands.{Sentence as Tree};
@@ -10,7 +10,7 @@ ghost use Rattle.lq_sentences.specs.Reading.{read_sentence, is_closed_behind};
 ghost use Rattle.lq_spelling.specs.Spellings.{IsCut};
 ghost use Rattle.lq_sessions.specs.Rest.{looked_at};
 ghost use Rattle.lq_sessions.specs.Output.{read_and_ran, rest_read, rest_looked, turn};
-ghost use Rattle.lq_pieces.specs.Pieces.{Comes};
+ghost use Rattle.lq_pieces.specs.Pieces.{Comes, Lies};
 
 use lq_causes::Stop;
 use lq_lex::{LexFault, Piece as Cut, Tokens, cut};
@@ -34,7 +34,8 @@ pub enum Piece {
 /// The sentence that tokens are, before that place.
 fn read_piece(alloc: Global, text: &[u8], tokens: &Tokens, place: usize) -> Result<Piece, Stop>
     requires { IsCut text.now tokens.now }
-    ensures { Comes result (λ b s k go. read_and_ran b s k (read_sentence text.now tokens.now) (go place)) }
+    ensures comes { Comes result (λ b s k go. read_and_ran b s k (read_sentence text.now tokens.now) (go place)) }
+    ensures lies { (from len : ℕ) → from < place → place ≤ len → IfOk result (Lies from len) }
 {
     match read_sentence(alloc, text, tokens) {
         Ok(sentence) => Ok(Piece::Sentence(sentence, place)),
@@ -44,7 +45,8 @@ fn read_piece(alloc: Global, text: &[u8], tokens: &Tokens, place: usize) -> Resu
 
 /// What a fault of tokens that can be looked at tells of a text that goes on: nothing where they only end too early.
 fn begun_fault(fault: SyntaxFault) -> Result<Piece, Stop>
-    ensures { (r : Result Tree SyntaxFault) → Answers (Err fault) r → Comes result (λ b s k go. rest_read b s k r) }
+    ensures comes { (r : Result Tree SyntaxFault) → Answers (Err fault) r → Comes result (λ b s k go. rest_read b s k r) }
+    ensures lies { (from len : ℕ) → IfOk result (Lies from len) }
 {
     match fault {
         SyntaxFault::EndInside(_) => Ok(Piece::TooLong),
@@ -58,7 +60,8 @@ fn begun_fault(fault: SyntaxFault) -> Result<Piece, Stop>
 /// The fault of tokens that can be looked at, where there is one.
 fn begun_piece(alloc: Global, text: &[u8], tokens: &Tokens) -> Result<Piece, Stop>
     requires { IsCut text.now tokens.now }
-    ensures { Comes result (λ b s k go. rest_read b s k (read_sentence text.now tokens.now)) }
+    ensures comes { Comes result (λ b s k go. rest_read b s k (read_sentence text.now tokens.now)) }
+    ensures lies { (from len : ℕ) → IfOk result (Lies from len) }
 {
     match read_sentence(alloc, text, tokens) {
         Ok(_begun) => Ok(Piece::TooLong),
@@ -69,7 +72,8 @@ fn begun_piece(alloc: Global, text: &[u8], tokens: &Tokens) -> Result<Piece, Sto
 /// The fault of what can be looked at from a place on in a text that goes on, where there is one.
 fn rest_piece(alloc: Global, text: &[u8], from: usize) -> Result<Piece, Stop>
     requires { from ≤ length text.now }
-    ensures { Comes result (λ b s k go. rest_looked b text.now s k (looked_at text.now from)) }
+    ensures comes { Comes result (λ b s k go. rest_looked b text.now s k (looked_at text.now from)) }
+    ensures lies { (start len : ℕ) → IfOk result (Lies start len) }
 {
     match looked_at(alloc, text, from) {
         Ok(tokens) => {
@@ -92,7 +96,8 @@ fn is_settled(text: &[u8], tokens: &Tokens, place: usize) -> bool
 
 /// What a script that is all there has next at or after a place.
 fn whole_piece(alloc: Global, text: &[u8], from: usize) -> Result<Piece, Stop>
-    ensures { Comes result (λ b s k go. turn b true text.now from s k go) }
+    ensures comes { Comes result (λ b s k go. turn b true text.now from s k go) }
+    ensures lies { IfOk result (Lies from (length text.now)) }
 {
     match cut(alloc, text, from, true) {
         Ok(Cut::Sentence(tokens, place)) => read_piece(alloc, text, &tokens, place),
@@ -105,7 +110,8 @@ fn whole_piece(alloc: Global, text: &[u8], from: usize) -> Result<Piece, Stop>
 /// What a script that goes on behind the text has next, where the text itself has a fault next.
 fn behind_fault(alloc: Global, text: &[u8], from: usize, fault: LexFault) -> Result<Piece, Stop>
     requires { from ≤ length text.now }
-    ensures { Cuts (Err fault) (next text.now from) → Comes result (λ b s k go. turn b false text.now from s k go) }
+    ensures comes { Cuts (Err fault) (next text.now from) → Comes result (λ b s k go. turn b false text.now from s k go) }
+    ensures lies { IfOk result (Lies from (length text.now)) }
 {
     match fault {
         LexFault::NoMemory => Err(Stop::NoMemory),
@@ -126,7 +132,10 @@ fn behind_tokens(
 ) -> Result<Piece, Stop>
     requires from { from ≤ length text.now }
     requires next { next text.now from ≡ Ok (sentence tokens.now place) }
-    ensures { Comes result (λ b s k go. turn b false text.now from s k go) }
+    requires behind { from < place }
+    requires within { place ≤ length text.now }
+    ensures comes { Comes result (λ b s k go. turn b false text.now from s k go) }
+    ensures lies { IfOk result (Lies from (length text.now)) }
 {
     if is_settled(text, tokens, place) {
         read_piece(alloc, text, tokens, place)
@@ -138,7 +147,8 @@ fn behind_tokens(
 /// What a script that goes on behind the text has next at or after a place.
 fn open_piece(alloc: Global, text: &[u8], from: usize) -> Result<Piece, Stop>
     requires { from ≤ length text.now }
-    ensures { Comes result (λ b s k go. turn b false text.now from s k go) }
+    ensures comes { Comes result (λ b s k go. turn b false text.now from s k go) }
+    ensures lies { IfOk result (Lies from (length text.now)) }
 {
     match cut(alloc, text, from, true) {
         Ok(Cut::Sentence(tokens, place)) => behind_tokens(alloc, text, from, &tokens, place),
@@ -149,7 +159,7 @@ fn open_piece(alloc: Global, text: &[u8], from: usize) -> Result<Piece, Stop>
 }
 
 /// What a script has next at or after a place: `text` is the whole script, or, where `whole` is false, the bytes that count of one that is too
-/// long. Places count in bytes from the start of the text.
+/// long. Places count in bytes from the start of the text; that behind a sentence lies behind `from`, and in the text.
 ///
 /// # Errors
 ///
@@ -157,7 +167,8 @@ fn open_piece(alloc: Global, text: &[u8], from: usize) -> Result<Piece, Stop>
 /// reach the end of the text. `NoMemory` where there is no memory for the sentence.
 pub fn next_piece(alloc: Global, text: &[u8], from: usize, whole: bool) -> Result<Piece, Stop>
     requires { from ≤ length text.now }
-    ensures { Comes result (λ b s k go. turn b whole text.now from s k go) }
+    ensures comes { Comes result (λ b s k go. turn b whole text.now from s k go) }
+    ensures lies { IfOk result (Lies from (length text.now)) }
 {
     if whole {
         whole_piece(alloc, text, from)

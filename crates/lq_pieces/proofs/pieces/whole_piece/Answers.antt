@@ -7,13 +7,13 @@ pub read_piece-requires : goal.read_piece-requires
 read_piece-requires c =
     next_cut c.args.text.now c.args.from c.in-Ok-Sentence.place c.in-Ok-Sentence.tokens (as_cut _ _ _ c.in-Ok-Sentence.field-0-is (c.in-Ok-Sentence.ensures.ended refl))
 
-pub returns-in-Ok-Sentence : goal.returns-in-Ok-Sentence
-returns-in-Ok-Sentence c =
+pub returns-in-Ok-Sentence-clause-comes : goal.returns-in-Ok-Sentence-clause-comes
+returns-in-Ok-Sentence-clause-comes c =
     whole_sentence c.args.text.now c.args.from c.in-Ok-Sentence.place c.in-Ok-Sentence.tokens c.read_piece.result
-    (as_cut _ _ _ c.in-Ok-Sentence.field-0-is (c.in-Ok-Sentence.ensures.ended refl)) c.read_piece.ensures
+    (as_cut _ _ _ c.in-Ok-Sentence.field-0-is (c.in-Ok-Sentence.ensures.ended refl)) c.read_piece.ensures.comes
 
-pub returns-in-Ok-End : goal.returns-in-Ok-End
-returns-in-Ok-End c = whole_end c.args.text.now c.args.from (as_cut _ _ _ c.in-Ok-End.field-0-is (c.in-Ok-End.ensures.ended refl))
+pub returns-in-Ok-End-clause-comes : goal.returns-in-Ok-End-clause-comes
+returns-in-Ok-End-clause-comes c = whole_end c.args.text.now c.args.from (as_cut _ _ _ c.in-Ok-End.field-0-is (c.in-Ok-End.ensures.ended refl))
 
-pub returns-in-Err : goal.returns-in-Err
-returns-in-Err c = as_stop _ _ _ c.from.ensures (whole_fault c.args.text.now c.args.from c.in-Err.fault (c.in-Err.ensures.ended refl))
+pub returns-in-Err-clause-comes : goal.returns-in-Err-clause-comes
+returns-in-Err-clause-comes c = as_stop _ _ _ c.from.ensures (whole_fault c.args.text.now c.args.from c.in-Err.fault (c.in-Err.ensures.ended refl))
