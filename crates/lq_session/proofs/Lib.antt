@@ -3,3 +3,4 @@ pub mod ShowLaws
 pub mod DeclareLaws
 pub mod CheckLaws
 pub mod EndLaws
+pub mod CommandLaws

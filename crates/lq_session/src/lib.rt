@@ -4,6 +4,7 @@
 mod aborting;
 mod allowed;
 mod checking;
+mod commands;
 mod defining;
 mod ending;
 mod opened;
@@ -13,6 +14,10 @@ mod stating;
 
 pub use aborting::{abort_proof, begin_proof};
 pub use checking::check;
+pub use commands::{
+    command_abort, command_check, command_defined, command_definition, command_print,
+    command_proof, command_qed, command_show, command_theorem,
+};
 pub use defining::define_constant;
 pub use ending::end_proof;
 pub use opened::{Opened, Session};

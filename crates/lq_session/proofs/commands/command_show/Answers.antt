@@ -1,0 +1,7 @@
+use Rattle.lq_ast.specs.PlainCommands.{plain_vernac}
+use Rattle.lq_sessions.specs.Sentences.{command_done}
+use Rattle.lq_session.proofs.commands.command_show.Goals as goal
+
+pub returns-clause-answer : goal.returns-clause-answer
+unfolding command_done plain_vernac
+returns-clause-answer c = c.show.ensures.answer
