@@ -1,12 +1,12 @@
 -- The hypotheses are gone through from the newest to the oldest.
-use Rattle.std.proofs.Common.{◌≡◌, ◌<◌, ◌≤◌, ◌+◌, ◌-◌, ℕ, zero, suc, refl, sym, ◌∙◌, ap, arith, Bool, true, false, ◌||◌, List, [], ◌∷◌, ◌++◌, length, get_or, reverse, take, map, Option, Some, None, Result, Ok, Err}
+use Rattle.std.proofs.Common.{◌≡◌, ◌<◌, ◌≤◌, ◌-◌, ℕ, zero, suc, refl, sym, ◌∙◌, ap, arith, Bool, true, false, ◌||◌, List, [], ◌∷◌, ◌++◌, length, get_or, reverse, take, map, Result}
 use Rattle.std.proofs.Common.{subst as along}
 use Rattle.std.proofs.Math.Seq.{take-suc}
 use Rattle.std.proofs.lemmas.List.{reverse-append}
 use Rattle.lq_trees.specs.Tree.{Name, Tree, Hypothesis, Context, same_name}
 use Rattle.lq_trees.specs.Tree.Tree.{Var}
 use Rattle.lq_trees.specs.Fresh.{is_listed}
-use Rattle.lq_trees.specs.Ticks.{gives, fails, ◌>>=◌, Outcome, done, failed, steps_out, ComesTo}
+use Rattle.lq_trees.specs.Ticks.{gives, ◌>>=◌, Outcome, done, failed, steps_out, ComesTo}
 use Rattle.lq_trees.proofs.Outcomes.{comes_then, comes_gives, comes_fails}
 use Rattle.lq_calculus.specs.Checking.{conv}
 use Rattle.lq_calculus.specs.Declarations.{Env as Environment, rules_of}
@@ -27,7 +27,7 @@ use Rattle.lq_evars.specs.Places.{Places, store_of}
 use Rattle.lq_tactics.specs.Rows.{RowFault, Doing, Done, Step, done_by, given_to, no_assumption}
 use Rattle.lq_tactics.specs.Primitives.{first_assumption}
 use Rattle.lq_prims.specs.declared.faults.PrimFault.{PrimFault}
-use Rattle.lq_prims.specs.Working.{Refuses, Does, Tells}
+use Rattle.lq_prims.specs.Working.{Refuses, Tells}
 use Rattle.lq_prims.specs.Scenes.{scene_by, context_at}
 use Rattle.lq_prims.proofs.WorkLaws.{refuses_as, refuses_at, refuses_first}
 

@@ -1,6 +1,5 @@
 -- What a comparison as reduction answers it comes to, where its fault is one of a primitive.
-use Rattle.std.proofs.Common.{◌≡◌, ℕ, zero, suc, refl, sym, ◌∙◌, ap, arith, Bool, true, false, List, [], ◌∷◌, Option, Some, None, Result, Ok, Err}
-use Rattle.std.proofs.Common.{subst as along}
+use Rattle.std.proofs.Common.{◌≡◌, ℕ, zero, suc, refl, sym, ◌∙◌, ap, Bool, true, false, List, [], ◌∷◌, Option, Some, None, Result, Ok, Err}
 use Rattle.lq_trees.specs.Tree.{Tree, Context}
 use Rattle.lq_trees.specs.Ticks.{Paid, gives, fails, cut, tick, ◌>>=◌, Outcome, done, steps_out, within, ComesTo, faults_as}
 use Rattle.lq_trees.specs.Rules.{Rules}
@@ -12,7 +11,6 @@ use Rattle.lq_reduce.specs.declared.faults.ReduceFault.{ReduceFault}
 use Rattle.lq_reduce.specs.Answers.{Compares}
 use Rattle.lq_unify.proofs.ReduceSteps.{head_faults, outcome_as, within_faults}
 use Rattle.lq_tactics.specs.Rows.{RowFault, goals_exceeded}
-use Rattle.lq_prims.specs.declared.faults.PrimFault.{PrimFault}
 use Rattle.lq_prims.specs.Refusals.{reduce_refusal, ticks_spent}
 use Rattle.lq_prims.specs.Working.{Does}
 use Rattle.lq_prims.proofs.WorkLaws.{no_memory}

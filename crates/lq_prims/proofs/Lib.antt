@@ -22,3 +22,4 @@ pub mod EqualityLaws
 pub mod UnifyLaws
 pub mod ToldLaws
 pub mod ReflexLaws
+pub mod ReflexRows

@@ -1,6 +1,5 @@
 -- A primitive on a goal of a proof: the scene, the row, the lists.
-use Rattle.std.proofs.Common.{◌≡◌, ◌∙◌, ℕ, refl, sym, ap, Result, Ok, Err}
-use Rattle.std.proofs.Common.{subst as along}
+use Rattle.std.proofs.Common.{◌≡◌, ◌∙◌, ℕ, refl, sym, ap, Result}
 use Rattle.lq_trees.specs.Ticks.{gives, ◌>>=◌, done, ComesTo}
 use Rattle.lq_calculus.specs.Declarations.{Env as Environment}
 use Rattle.lq_ast.specs.Syntax.{Prim}

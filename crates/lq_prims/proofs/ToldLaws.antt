@@ -22,7 +22,7 @@ pub told_rest : {A : Type 0} (t u : Tree) (ts : List Tree) (f : RowFault) → ne
 unfolding told ◌>>=◌
 told_rest t u ts f e = ap (λ w. w >>= λ ok. told ts f) e
 
-told_none : {A : Type 0} (f : RowFault) → told {A = A} [] f ≡ fails f
+pub told_none : {A : Type 0} (f : RowFault) → told {A = A} [] f ≡ fails f
 unfolding told
 told_none f = refl
 

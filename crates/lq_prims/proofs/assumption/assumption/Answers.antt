@@ -1,8 +1,7 @@
-use Rattle.std.proofs.Common.{◌≡◌, ◌∙◌, refl, sym, ap, ℕ, List, [], reverse, Ok, Err}
+use Rattle.std.proofs.Common.{◌∙◌, refl, sym, ap, [], reverse}
 use Rattle.std.proofs.Common.{subst as along}
 use Rattle.lq_trees.specs.Tree.Tree.{Var}
 use Rattle.lq_trees.specs.Ticks.{done, ComesTo}
-use Rattle.lq_terms.specs.Contexts.{context_of}
 use Rattle.lq_terms.specs.Terms.{Grows, tree_of, text_of}
 use Rattle.lq_env.specs.Environments.{env_of}
 use Rattle.lq_solving.specs.Stores.{names_at}
@@ -12,8 +11,8 @@ use Rattle.lq_evars.proofs.Growing.{store_of-grown, HasStore-grown}
 use Rattle.lq_tactics.specs.Rows.{done_by, given_to}
 use Rattle.lq_tactics.specs.Primitives.{first_assumption}
 use Rattle.lq_prims.specs.Scenes.{scene_by, scene_in, context_at, step_by}
-use Rattle.lq_prims.specs.Working.{Refuses, Tells}
-use Rattle.lq_prims.proofs.SceneLaws.{HasGoalContext, goal_context, goal_grown, context_stands, names_are, kind_stands, kind_is}
+use Rattle.lq_prims.specs.Working.{Refuses}
+use Rattle.lq_prims.proofs.SceneLaws.{goal_context, goal_grown, context_stands, names_are, kind_stands, kind_is}
 use Rattle.lq_prims.proofs.AssumptionLaws.{found_stands, given_as}
 use Rattle.lq_prims.proofs.WorkLaws.{handed_on, refuses_ended, does_ended, does_at_once}
 use Rattle.lq_prims.proofs.assumption.assumption.Goals as goal

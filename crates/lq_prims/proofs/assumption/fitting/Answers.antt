@@ -1,11 +1,9 @@
-use Rattle.std.proofs.Common.{◌≡◌, ◌∙◌, ◌-◌, ◌+◌, ◌<◌, ◌≤◌, suc, refl, sym, ap, arith, true, false, length, get_or, reverse, [], None}
+use Rattle.std.proofs.Common.{◌∙◌, ◌-◌, ◌<◌, sym, arith, true, false, length, get_or, reverse, [], None}
 use Rattle.std.proofs.Common.{subst as along}
-use Rattle.lq_trees.specs.Tree.{Tree}
 use Rattle.lq_terms.specs.declared.nodes.Hypothesis.{Hypothesis}
 use Rattle.lq_terms.specs.Contexts.{context_of}
 use Rattle.lq_terms.specs.Terms.{tree_of, text_of}
 use Rattle.lq_env.specs.Environments.{env_of}
-use Rattle.lq_solving.specs.Kept.{StandsIn}
 use Rattle.lq_evars.specs.Places.{store_of}
 use Rattle.lq_prims.specs.Scenes.{scene_by}
 use Rattle.lq_prims.specs.Working.{Refuses}

@@ -1,4 +1,4 @@
-use Rattle.std.proofs.Common.{◌≡◌, sym, IfOk}
+use Rattle.std.proofs.Common.{IfOk}
 use Rattle.std.proofs.Common.{subst as along}
 use Rattle.lq_trees.specs.Tree.{Tree}
 use Rattle.lq_calculus.specs.Declarations.{variables}
