@@ -23,3 +23,5 @@ pub mod UnifyLaws
 pub mod ToldLaws
 pub mod ReflexLaws
 pub mod ReflexRows
+pub mod MoveLaws
+pub mod IntrosLaws

@@ -7,3 +7,4 @@ pub mod Placing
 pub mod Listing
 pub mod Finishing
 pub mod Equalities
+pub mod Moving

@@ -12,6 +12,7 @@ mod giving;
 mod holding;
 mod introducing;
 mod listing;
+mod moving;
 mod naming;
 mod needing;
 mod new_goals;
