@@ -34,7 +34,7 @@ something (x ∷ xs) zero l = (x, refl)
 something (x ∷ xs) (suc k) l = something xs k (omega (arith, l))
 
 -- what is true of each is true of one
-all_at : {X : Type 0} (P : X → Type 0) (xs : List X) (k : ℕ) (x : X) → AllByRecursion P xs → slice_get xs k ≡ Some x → P x
+pub all_at : {X : Type 0} (P : X → Type 0) (xs : List X) (k : ℕ) (x : X) → AllByRecursion P xs → slice_get xs k ≡ Some x → P x
 all_at P [] k x h e = absurd (grind arith)
 all_at P (y ∷ xs) zero x h e = along P (ap (λ o. elim o [ Some z ↦ z | None ↦ y ]) e) h.0
 all_at P (y ∷ xs) (suc k) x h e = all_at P xs k x h.1 e

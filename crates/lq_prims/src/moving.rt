@@ -1,12 +1,13 @@
 //! One step of `intros` (Rocq reference manual, "Tactics").
 
-ghost use Rattle.std.specs.Prelude.{◌≡◌, ◌+◌, ◌∷◌, [], option_map, IfOk, OnOk};
-ghost use Rattle.lq_terms.specs.Terms.{text_of, Grows};
+ghost use Rattle.std.specs.Prelude.{◌≡◌, ◌+◌, ◌∷◌, [], map, option_map, IfOk, OnOk};
+ghost use Rattle.std.specs.List.{AllByRecursion};
+ghost use Rattle.lq_terms.specs.Terms.{HasName, text_of, Grows};
 ghost use Rattle.lq_env.specs.Environments.{env_of};
 ghost use Rattle.lq_solving.specs.Kept.{IsStore};
 ghost use Rattle.lq_solving.specs.Elaboration.{Givens};
 ghost use Rattle.lq_evars.specs.Places.{HasNameOr, HasStore, store_of};
-ghost use Rattle.lq_tactics.specs.Primitives.{intro_all, most_binders};
+ghost use Rattle.lq_tactics.specs.Primitives.{intro_all, intro_each, most_binders};
 ghost use Rattle.lq_prims.specs.Moving.{Moves};
 ghost use Rattle.lq_prims.specs.Scenes.{IsPlaced, scene_in, step_by};
 ghost use Rattle.lq_prims.specs.Working.{Does};
@@ -89,6 +90,38 @@ pub(crate) fn intros<L: Ledger>(
             },
         }
         more -= 1;
+    }
+    Ok(at.goal)
+}
+
+/// `intros` with names: `intro` for each of them. The goal that is left is answered.
+pub(crate) fn intros_named<L: Ledger>(
+    work: &mut Work<'_, '_>,
+    env: &Env,
+    store: &mut Store,
+    place: Placed,
+    names: &[NameId],
+    steps: &mut Steps<L>,
+) -> Result<u32, PrimFault>
+    requires placed { IsPlaced work.old.bank.now env.now store.old place.goal place.kind }
+    requires names { AllByRecursion (HasName work.old.bank.now) names.now }
+    ensures answer { (vs : Givens) → Does work.new.bank.now (λ k. step_by (store_of work.new.bank.now store.new) (k ∷ [])) result
+        (λ n. intro_each (map (text_of work.old.bank.now) names.now)
+        (scene_in work.old.bank.now env.now store.old place.goal place.kind vs n)) work.old.ticks.now.left work.new.ticks.now.left }
+    ensures has { OnOk result (HasStore work.new.bank.now store.new) }
+    ensures kept { OnOk result (IsStore (store_of work.new.bank.now store.new)) }
+    ensures same_bank { work.new.bank.ghost_name ≡ work.old.bank.ghost_name }
+    ensures same_ticks { work.new.ticks.ghost_name ≡ work.old.ticks.ghost_name }
+    ensures grows { Grows work.old.bank.now work.new.bank.now }
+    ensures budget { work.new.ticks.now.left + work.new.ticks.now.spent ≡ work.old.ticks.now.left + work.old.ticks.now.spent }
+    ensures counted { steps.new + work.old.ticks.now.spent ≡ steps.old + work.new.ticks.now.spent }
+{
+    let mut at = place;
+    for name in names {
+        match moved(work, env, store, at, Some(*name), steps) {
+            Ok(next) => at = next,
+            Err(fault) => return Err(fault),
+        }
     }
     Ok(at.goal)
 }
