@@ -25,3 +25,4 @@ pub mod ReflexLaws
 pub mod ReflexRows
 pub mod MoveLaws
 pub mod IntrosLaws
+pub mod ElabWorks

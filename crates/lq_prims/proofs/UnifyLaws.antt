@@ -30,7 +30,7 @@ env_rules bank ds h told new grows apart =
     along (λ E. Tells new (telling ds) (rules_of E)) (env_of-grown bank new grows ds h)
     (told new (IsEnv-grown bank new grows ds h) (λ x has. own new x apart has))
 
-faults_come : {F G A : Type 0} (h : F → G) (f : ℕ → Paid F A) (b : ℕ) (o : Outcome F A) → ComesTo f b o → ComesTo (λ n. faults_as h (f n)) b (outcome_as h o)
+pub faults_come : {F G A : Type 0} (h : F → G) (f : ℕ → Paid F A) (b : ℕ) (o : Outcome F A) → ComesTo f b o → ComesTo (λ n. faults_as h (f n)) b (outcome_as h o)
 faults_come h f b o c = λ n i. within_faults h b (f n) ∙ ap (outcome_as h) (c n i)
 
 both_come : (f : ℕ → Unify Answer) (b : ℕ) (o : Outcome _ Answer) → ComesTo f b o → ComesTo (λ n. elab_work (by_unify (f n))) b (outcome_as by_elab (outcome_as unify_fault o))

@@ -20,6 +20,7 @@ mod placing;
 mod reflecting;
 mod rooms;
 mod standing;
+mod typing;
 mod unifying;
 
 pub use faults::PrimFault;
