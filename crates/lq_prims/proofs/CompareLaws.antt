@@ -17,7 +17,7 @@ use Rattle.lq_prims.proofs.WorkLaws.{no_memory}
 
 module _ {F G : Type 0} (h : F → G) where
   -- faults told in another way, in parts
-  faults_bind : {A B : Type 0} (r : Paid F A) (k : A → Paid F B) → faults_as h (r >>= k) ≡ (faults_as h r >>= λ a. faults_as h (k a))
+  pub faults_bind : {A B : Type 0} (r : Paid F A) (k : A → Paid F B) → faults_as h (r >>= k) ≡ (faults_as h r >>= λ a. faults_as h (k a))
   unfolding faults_as ◌>>=◌
   faults_bind (gives a) k = refl
   faults_bind (fails f) k = refl

@@ -26,3 +26,4 @@ pub mod ReflexRows
 pub mod MoveLaws
 pub mod IntrosLaws
 pub mod ElabWorks
+pub mod SortLaws

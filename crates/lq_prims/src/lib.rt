@@ -19,6 +19,7 @@ mod new_goals;
 mod placing;
 mod reflecting;
 mod rooms;
+mod sorts;
 mod standing;
 mod typing;
 mod unifying;
