@@ -1,4 +1,4 @@
-//! One step of `intros` (Rocq reference manual, "Tactics").
+//! `intros`, and one step of it (Rocq reference manual, "Tactics").
 
 ghost use Rattle.std.specs.Prelude.{◌≡◌, ◌+◌, ◌∷◌, [], map, option_map, IfOk, OnOk};
 ghost use Rattle.std.specs.List.{AllByRecursion};
@@ -29,7 +29,7 @@ pub(crate) struct Placed {
     pub(crate) kind: TermId,
 }
 
-/// `intro` on a goal, and the goal that it leaves.
+/// `intro` on a goal, and the goal that it leaves. It is refused as `intro` is, and where the type of that goal as it reads passes a limit.
 pub(crate) fn moved<L: Ledger>(
     work: &mut Work<'_, '_>,
     env: &Env,
