@@ -4,6 +4,7 @@ pub mod SolvedLaws
 pub mod FamilyLaws
 pub mod RowContexts
 pub mod ConstructorLaws
+pub mod MakingLaws
 pub mod ArityLaws
 pub mod StatementLaws
 pub mod SentenceLaws

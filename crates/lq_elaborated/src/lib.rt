@@ -4,6 +4,7 @@
 mod arities;
 mod checking;
 mod defining;
+mod families;
 mod faults;
 mod stating;
 mod terms;
@@ -11,6 +12,7 @@ mod terms;
 pub use arities::arity_read;
 pub use checking::check_term;
 pub use defining::define;
+pub use families::constructors_in;
 pub use faults::stop_of;
 pub use stating::state;
 pub use terms::{Typed, term_in, type_in};

@@ -1,0 +1,98 @@
+//! Constructors of families, elaborated one after the other.
+
+ghost use Rattle.std.specs.Prelude.{◌≡◌, ◌+◌, length, map, IfOk};
+ghost use Rattle.lq_ast.specs.Plain.{plain};
+ghost use Rattle.lq_ast.specs.PlainCommands.{plain_constructor};
+ghost use Rattle.lq_terms.specs.Contexts.{HasContext, context_of};
+ghost use Rattle.lq_terms.specs.Terms.{Grows};
+ghost use Rattle.lq_env.specs.Environments.{IsEnv, env_of};
+ghost use Rattle.lq_solving.specs.Claims.{ArePlainDeclarations};
+ghost use Rattle.lq_solving.specs.Kept.{IsContext, IsStore};
+ghost use Rattle.lq_evars.specs.Places.{store_of, HasStore};
+ghost use Rattle.lq_sessions.specs.Declaring.{type_work, constructors_work};
+ghost use Rattle.lq_elaborated.specs.Families.{FindsConstructor, FindsConstructors};
+
+use crate::terms::type_in;
+use lq_ast::Constructor;
+use lq_causes::Stop;
+use lq_elab::Written;
+use lq_env::{Constructors, Env};
+use lq_evars::Store;
+use lq_terms::{Context, NameId, Steps, TermId, Work};
+use std::sync::ledger::Ledger;
+
+/// A constructor: its type is elaborated in a context, which must have a sort, and its name is put into the bank.
+fn constructor_in<L: Ledger>(
+    work: &mut Work<'_, '_>,
+    env: &Env,
+    store: &mut Store,
+    context: &Context,
+    constructor: &Constructor,
+    steps: &mut Steps<L>,
+) -> Result<(NameId, TermId), Stop>
+    requires env { IsEnv work.old.bank.now env.now }
+    requires plain { ArePlainDeclarations (env_of work.old.bank.now env.now) }
+    requires store { HasStore work.old.bank.now store.old }
+    requires kept { IsStore (store_of work.old.bank.now store.old) }
+    requires context { HasContext work.old.bank.now context.now }
+    requires hypotheses { IsContext (store_of work.old.bank.now store.old) (context_of work.old.bank.now context.now) }
+    ensures answer { FindsConstructor work.new.bank.now (store_of work.old.bank.now store.old) store.new result constructor.now.name
+        (λ n. type_work (env_of work.old.bank.now env.now) n (context_of work.old.bank.now context.now) (store_of work.old.bank.now store.old)
+        (plain constructor.now.kind)) work.old.ticks.now.left work.new.ticks.now.left }
+    ensures same_bank { work.new.bank.ghost_name ≡ work.old.bank.ghost_name }
+    ensures same_ticks { work.new.ticks.ghost_name ≡ work.old.ticks.ghost_name }
+    ensures grows { Grows work.old.bank.now work.new.bank.now }
+    ensures budget { work.new.ticks.now.left + work.new.ticks.now.spent ≡ work.old.ticks.now.left + work.old.ticks.now.spent }
+    ensures counted { steps.new + work.old.ticks.now.spent ≡ steps.old + work.new.ticks.now.spent }
+{
+    let found = match type_in(
+        work,
+        env,
+        store,
+        context,
+        Written::Term(&constructor.kind),
+        steps,
+    ) {
+        Ok(found) => found,
+        Err(stop) => return Err(stop),
+    };
+    let name = work.bank.name(constructor.name.as_str())?;
+    Ok((name, found.term))
+}
+
+/// The constructors of a family in order, with the family in the environment and its parameters as the context: each type is elaborated
+/// over what the store has from those before, and must have a sort. It pays the ticks of elaboration. Refused as elaboration refuses, and
+/// as `NotASort` with the weak head form of a type's own type. See the Rocq reference manual, "Inductive types".
+pub fn constructors_in<L: Ledger>(
+    work: &mut Work<'_, '_>,
+    env: &Env,
+    store: &mut Store,
+    context: &Context,
+    constructors: &[Constructor],
+    steps: &mut Steps<L>,
+) -> Result<Constructors, Stop>
+    requires env { IsEnv work.old.bank.now env.now }
+    requires plain { ArePlainDeclarations (env_of work.old.bank.now env.now) }
+    requires store { HasStore work.old.bank.now store.old }
+    requires kept { IsStore (store_of work.old.bank.now store.old) }
+    requires context { HasContext work.old.bank.now context.now }
+    requires hypotheses { IsContext (store_of work.old.bank.now store.old) (context_of work.old.bank.now context.now) }
+    ensures answer { FindsConstructors work.new.bank.now (store_of work.old.bank.now store.old) store.new result
+        (λ n. constructors_work (env_of work.old.bank.now env.now) n (context_of work.old.bank.now context.now)
+        (store_of work.old.bank.now store.old) (map plain_constructor constructors.now)) work.old.ticks.now.left work.new.ticks.now.left }
+    ensures few { IfOk result (λ cs. length cs ≡ length constructors.now) }
+    ensures same_bank { work.new.bank.ghost_name ≡ work.old.bank.ghost_name }
+    ensures same_ticks { work.new.ticks.ghost_name ≡ work.old.ticks.ghost_name }
+    ensures grows { Grows work.old.bank.now work.new.bank.now }
+    ensures budget { work.new.ticks.now.left + work.new.ticks.now.spent ≡ work.old.ticks.now.left + work.old.ticks.now.spent }
+    ensures counted { steps.new + work.old.ticks.now.spent ≡ steps.old + work.new.ticks.now.spent }
+{
+    let mut made = Constructors::new(work.bank.allocator());
+    for constructor in constructors {
+        match constructor_in(work, env, store, context, constructor, steps) {
+            Ok((name, kind)) => made.push(name, kind)?,
+            Err(stop) => return Err(stop),
+        }
+    }
+    Ok(made)
+}
