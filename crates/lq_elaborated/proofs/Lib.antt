@@ -5,6 +5,7 @@ pub mod FamilyLaws
 pub mod RowContexts
 pub mod ConstructorLaws
 pub mod MakingLaws
+pub mod OpenLaws
 pub mod ArityLaws
 pub mod StatementLaws
 pub mod SentenceLaws

@@ -1,12 +1,14 @@
 //! Constructors of families, elaborated one after the other.
 
-ghost use Rattle.std.specs.Prelude.{◌≡◌, ◌+◌, length, map, IfOk};
+ghost use Rattle.std.specs.Prelude.{◌≡◌, ◌+◌, [], ◌∷◌, ◌++◌, false, length, map, IfOk};
+ghost use Rattle.lq_trees.specs.Fresh.{is_listed};
+ghost use Rattle.lq_calculus.specs.Declarations.{arity, names_of};
 ghost use Rattle.lq_ast.specs.Plain.{plain};
 ghost use Rattle.lq_ast.specs.PlainCommands.{plain_constructor};
 ghost use Rattle.lq_terms.specs.Contexts.{HasContext, context_of};
-ghost use Rattle.lq_terms.specs.Terms.{Grows};
+ghost use Rattle.lq_terms.specs.Terms.{HasName, HasTerm, text_of, tree_of, Grows};
 ghost use Rattle.lq_env.specs.Environments.{IsEnv, env_of};
-ghost use Rattle.lq_solving.specs.Claims.{ArePlainDeclarations};
+ghost use Rattle.lq_solving.specs.Claims.{ArePlainDeclarations, IsPlain};
 ghost use Rattle.lq_solving.specs.Kept.{IsContext, IsStore};
 ghost use Rattle.lq_evars.specs.Places.{store_of, HasStore};
 ghost use Rattle.lq_sessions.specs.Declaring.{type_work, constructors_work};
@@ -95,4 +97,49 @@ pub fn constructors_in<L: Ledger>(
         }
     }
     Ok(made)
+}
+
+/// The same with a family of that name and type in the environment while they are elaborated, as one that is being declared. The
+/// environment is as before in the end.
+fn constructors_inside<L: Ledger>(
+    work: &mut Work<'_, '_>,
+    env: &mut Env,
+    store: &mut Store,
+    name: NameId,
+    kind: TermId,
+    context: &Context,
+    constructors: &[Constructor],
+    steps: &mut Steps<L>,
+) -> Result<Constructors, Stop>
+    requires env { IsEnv work.old.bank.now env.old }
+    requires plain { ArePlainDeclarations (env_of work.old.bank.now env.old) }
+    requires name { HasName work.old.bank.now name }
+    requires new { is_listed (names_of (env_of work.old.bank.now env.old)) (text_of work.old.bank.now name) ≡ false }
+    requires kind { HasTerm work.old.bank.now kind }
+    requires bare { IsPlain 0 (tree_of work.old.bank.now kind) }
+    requires store { HasStore work.old.bank.now store.old }
+    requires kept { IsStore (store_of work.old.bank.now store.old) }
+    requires context { HasContext work.old.bank.now context.now }
+    requires hypotheses { IsContext (store_of work.old.bank.now store.old) (context_of work.old.bank.now context.now) }
+    ensures answer { FindsConstructors work.new.bank.now (store_of work.old.bank.now store.old) store.new result
+        (λ n. constructors_work (env_of work.old.bank.now env.old ++ (text_of work.old.bank.now name, arity (tree_of work.old.bank.now kind)) ∷ []) n
+        (context_of work.old.bank.now context.now) (store_of work.old.bank.now store.old) (map plain_constructor constructors.now))
+        work.old.ticks.now.left work.new.ticks.now.left }
+    ensures few { IfOk result (λ cs. length cs ≡ length constructors.now) }
+    ensures kept { env.new ≡ env.old }
+    ensures same_bank { work.new.bank.ghost_name ≡ work.old.bank.ghost_name }
+    ensures same_ticks { work.new.ticks.ghost_name ≡ work.old.ticks.ghost_name }
+    ensures grows { Grows work.old.bank.now work.new.bank.now }
+    ensures budget { work.new.ticks.now.left + work.new.ticks.now.spent ≡ work.old.ticks.now.left + work.old.ticks.now.spent }
+    ensures counted { steps.new + work.old.ticks.now.spent ≡ steps.old + work.new.ticks.now.spent }
+{
+    work.bank.names_apart();
+    match env.open_family(name, kind) {
+        Ok(()) => {
+            let made = constructors_in(work, env, store, context, constructors, steps);
+            env.close_family();
+            made
+        }
+        Err(fault) => Err(Stop::from(fault)),
+    }
 }
