@@ -6,6 +6,7 @@ pub mod RowContexts
 pub mod ConstructorLaws
 pub mod MakingLaws
 pub mod OpenLaws
+pub mod InductiveLaws
 pub mod ArityLaws
 pub mod StatementLaws
 pub mod SentenceLaws

@@ -29,6 +29,7 @@ use Rattle.lq_solving.specs.Stores.{Store}
 use Rattle.lq_solving.proofs.ElabKept.{Grown, grown_now, grown_then}
 use Rattle.lq_solving.proofs.StoreLaws.{context_keeps}
 use Rattle.lq_evars.specs.Places.{Places, store_of, HasStore}
+use Rattle.lq_goals.specs.Seen.{IsReadable}
 use Rattle.lq_sessions.specs.Sessions.{Work}
 use Rattle.lq_sessions.specs.Declaring.{type_work, constructors_work}
 use Rattle.lq_declaring.specs.Families.{CanReadIt}
@@ -159,3 +160,11 @@ module _ (b0 mid : Terms) (g0 : Grows b0 mid) (ds : List (NameId × Declared)) (
         lead_end (env_of b0 ds) (context_of b0 hs) S (map plain_constructor cs) b (constructors_of mid made) (store_of mid s) left
         (subst (λ z. leads_on (map plain_constructor z)) (drop_all i cs l) h.leads);
   }
+
+-- what can be read still can where bank and store have grown
+pub readable_more : (old new : Terms) → Grows old new → (s s1 : Places) → Grown (store_of old s) (store_of new s1) → (t : TermId) → IsReadable old s t → IsReadable new s1 t
+readable_more old new g s s1 m t k = record {
+  has = omega (arith, k.has, g.nodes);
+  over = subst (IsOver (store_of new s1).variables) (sym (g.tree t k.has)) (m.over (tree_of old t) k.over);
+  within = subst (Within 0) (sym (g.tree t k.has)) k.within;
+}

@@ -1,7 +1,9 @@
 -- The work of a family's arity, once it is elaborated.
-use Rattle.std.specs.Prelude.{◌≡◌, ℕ, List, Result, Ok, Err}
+use Rattle.std.specs.Prelude.{◌≡◌, ℕ, List, [], ◌∷◌, ◌++◌, Result, Ok, Err}
 use Rattle.std.specs.List.{AllByRecursion}
-use Rattle.lq_trees.specs.Tree.{Name, Tree}
+use Rattle.lq_trees.specs.Tree.{Name, Tree, Context}
+use Rattle.lq_calculus.specs.Declarations.{Env as Environment, arity}
+use Rattle.lq_ast.specs.Syntax.{Surface}
 use Rattle.lq_trees.specs.Ticks.{gives, ◌>>=◌, done, ComesTo}
 use Rattle.lq_terms.specs.declared.nodes.NameId.{NameId}
 use Rattle.lq_terms.specs.declared.nodes.TermId.{TermId}
@@ -11,10 +13,10 @@ use Rattle.lq_evars.specs.Places.{Places, store_of, HasStore}
 use Rattle.lq_goals.specs.Seen.{IsReadable}
 use Rattle.lq_solving.specs.Elaboration.{Found as Elaborated, found}
 use Rattle.lq_solving.proofs.ElabKept.{Grown}
-use Rattle.lq_declaring.specs.Families.{CanReadIt}
+use Rattle.lq_declaring.specs.Families.{CanReadIt, family_rest}
 use Rattle.lq_solving.specs.Stores.{Store, read}
 use Rattle.lq_sessions.specs.Sessions.{Work}
-use Rattle.lq_sessions.specs.Declaring.{Row, row_of, solved_work}
+use Rattle.lq_sessions.specs.Declaring.{Row, row_of, solved_work, constructors_work}
 use Rattle.lq_declaring.specs.declared.rows.Row.{Row as Found}
 use Rattle.lq_declaring.specs.Rows.{IsRow, row_in}
 use Rattle.lq_causes.specs.declared.stops.Stop.{Stop}
@@ -62,3 +64,7 @@ pub record AreConstructors (bank : Terms) (old : Store) (s : Places) (f : ℕ �
 abbrev pub FindsConstructors : Terms → Store → Places → Result (List (NameId × TermId)) Stop → (ℕ → Work (Store × List (Name × Tree))) → (budget left : ℕ) → Type 0
 FindsConstructors bank old s (Ok cs) f b left = AreConstructors bank old s f b left cs
 FindsConstructors bank old s (Err stop) f b left = Stops bank stop f b left
+
+-- what stands behind an arity that is read: the constructors with the family in the environment, and then the family
+abbrev pub constructed_work : Environment → Name → (parameters : ℕ) → Store → Tree → (kind : Tree) → Context → List (Name × Surface) → ℕ → Work Environment
+constructed_work env x k s t r ps cs n = constructors_work (env ++ (x, arity r) ∷ []) n ps s cs >>= λ c. family_rest env x k c.0 t c.1 n
