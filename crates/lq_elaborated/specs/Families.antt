@@ -68,3 +68,7 @@ FindsConstructors bank old s (Err stop) f b left = Stops bank stop f b left
 -- what stands behind an arity that is read: the constructors with the family in the environment, and then the family
 abbrev pub constructed_work : Environment → Name → (parameters : ℕ) → Store → Tree → (kind : Tree) → Context → List (Name × Surface) → ℕ → Work Environment
 constructed_work env x k s t r ps cs n = constructors_work (env ++ (x, arity r) ∷ []) n ps s cs >>= λ c. family_rest env x k c.0 t c.1 n
+
+-- what stands behind an elaborated arity: its row, a look at the store's variables, and the rest
+abbrev pub arity_work : Environment → Name → (parameters : ℕ) → Store → Tree → List (Name × Surface) → ℕ → Work Environment
+arity_work env x k s t cs n = row_of k (read s t) >>= λ r. solved_work s >>= λ ok. constructed_work env x k s t (read s t) r.parameters cs n

@@ -2,6 +2,8 @@
 
 ghost use Rattle.std.specs.Prelude.{◌≡◌, ◌+◌, [], ◌∷◌, ◌++◌, ◌<◌, false, length, map, IfOk, OnOk, OnErr};
 ghost use Rattle.lq_trees.specs.Fresh.{is_listed};
+ghost use Rattle.lq_trees.specs.declared.Fit.{Fit};
+ghost use Rattle.lq_trees.specs.Size.{fit};
 ghost use Rattle.lq_calculus.specs.Declarations.{arity, names_of};
 ghost use Rattle.lq_calculus.specs.Typing.{DerivedEnv};
 ghost use Rattle.lq_ast.specs.Plain.{plain};
@@ -10,13 +12,15 @@ ghost use Rattle.lq_terms.specs.Contexts.{HasContext, context_of};
 ghost use Rattle.lq_terms.specs.Terms.{HasName, HasTerm, text_of, tree_of, Grows};
 ghost use Rattle.lq_env.specs.Environments.{IsEnv, env_of, Extends};
 ghost use Rattle.lq_solving.specs.Claims.{ArePlainDeclarations, IsPlain};
-ghost use Rattle.lq_solving.specs.Kept.{IsContext, IsStore};
+ghost use Rattle.lq_solving.specs.Kept.{IsContext, IsStore, StandsIn};
+ghost use Rattle.lq_solving.specs.Stores.{read};
 ghost use Rattle.lq_evars.specs.Places.{store_of, HasStore};
 ghost use Rattle.lq_goals.specs.Seen.{IsReadable};
 ghost use Rattle.lq_declaring.specs.Constants.{Declares};
 ghost use Rattle.lq_sessions.specs.Declaring.{type_work, constructors_work};
-ghost use Rattle.lq_elaborated.specs.Families.{FindsConstructor, FindsConstructors, constructed_work};
+ghost use Rattle.lq_elaborated.specs.Families.{FindsConstructor, FindsConstructors, arity_work, constructed_work};
 
+use crate::arities::arity_read;
 use crate::terms::type_in;
 use lq_ast::Constructor;
 use lq_causes::Stop;
@@ -195,6 +199,57 @@ fn declare_constructed<L: Ledger>(
             parameters,
             arity,
             made.constructors(),
+            steps,
+        ),
+        Err(stop) => Err(stop),
+    }
+}
+
+/// A family whose arity was elaborated: the arity is read as a row, its constructors are elaborated, and the family is declared.
+fn declare_behind<L: Ledger>(
+    work: &mut Work<'_, '_>,
+    env: &mut Env,
+    store: &mut Store,
+    name: NameId,
+    parameters: usize,
+    arity: TermId,
+    constructors: &[Constructor],
+    steps: &mut Steps<L>,
+) -> Result<(), Stop>
+    requires env { IsEnv work.old.bank.now env.old }
+    requires plain { ArePlainDeclarations (env_of work.old.bank.now env.old) }
+    requires name { HasName work.old.bank.now name }
+    requires new { is_listed (names_of (env_of work.old.bank.now env.old)) (text_of work.old.bank.now name) ≡ false }
+    requires store { HasStore work.old.bank.now store.old }
+    requires stored { IsStore (store_of work.old.bank.now store.old) }
+    requires arity { IsReadable work.old.bank.now store.old arity }
+    requires stands { StandsIn (store_of work.old.bank.now store.old) [] (tree_of work.old.bank.now arity) }
+    requires fits { fit (read (store_of work.old.bank.now store.old) (tree_of work.old.bank.now arity)) ≡ Fit.Fits }
+    requires few { length constructors.now < 4294967296 }
+    ensures answer { Declares work.new.bank.now result env.new (arity_work (env_of work.old.bank.now env.old) (text_of work.old.bank.now name)
+        parameters (store_of work.old.bank.now store.old) (tree_of work.old.bank.now arity) (map plain_constructor constructors.now))
+        work.old.ticks.now.left work.new.ticks.now.left }
+    ensures derived { OnOk result (DerivedEnv (env_of work.old.bank.now env.old) → DerivedEnv (env_of work.new.bank.now env.new)) }
+    ensures env { IsEnv work.new.bank.now env.new }
+    ensures extends { OnOk result (Extends env.old env.new) }
+    ensures kept { OnErr result (env.new ≡ env.old) }
+    ensures same_bank { work.new.bank.ghost_name ≡ work.old.bank.ghost_name }
+    ensures same_ticks { work.new.ticks.ghost_name ≡ work.old.ticks.ghost_name }
+    ensures grows { Grows work.old.bank.now work.new.bank.now }
+    ensures budget { work.new.ticks.now.left + work.new.ticks.now.spent ≡ work.old.ticks.now.left + work.old.ticks.now.spent }
+    ensures counted { steps.new + work.old.ticks.now.spent ≡ steps.old + work.new.ticks.now.spent }
+{
+    match arity_read(work.bank, store, parameters, arity) {
+        Ok((kind, row)) => declare_constructed(
+            work,
+            env,
+            store,
+            name,
+            parameters,
+            arity,
+            kind,
+            &row.parameters,
+            constructors,
             steps,
         ),
         Err(stop) => Err(stop),
