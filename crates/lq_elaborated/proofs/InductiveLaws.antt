@@ -1,7 +1,7 @@
 -- A family, part by part.
-use Rattle.std.proofs.Common.{◌≡◌, ◌∙◌, ◌<◌, ◌^◌, refl, sym, ap, subst, arith, ℕ, List, [], ◌∷◌, ◌++◌, Result, Bool, false}
+use Rattle.std.proofs.Common.{◌≡◌, ◌∙◌, refl, sym, ap, subst, arith, ℕ, List, [], Result, false}
 use Rattle.std.specs.Prelude.{OnOk, OnErr}
-use Rattle.lq_trees.specs.Tree.{Name, Tree, Context}
+use Rattle.lq_trees.specs.Tree.{Name, Tree}
 use Rattle.lq_trees.specs.Ticks.{Paid, gives, fails, cut, tick, ◌>>=◌}
 use Rattle.lq_trees.specs.Fresh.{is_listed}
 use Rattle.lq_trees.specs.declared.Fit.{Fit}
@@ -11,7 +11,7 @@ use Rattle.lq_ast.specs.Syntax.{Surface}
 use Rattle.lq_calculus.proofs.ConvSound.{Gives}
 use Rattle.lq_evars.specs.Places.{Places, store_of, HasStore}
 use Rattle.lq_evars.proofs.Growing.{store_of-grown}
-use Rattle.lq_solving.specs.Claims.{ArePlainDeclarations, IsPlain}
+use Rattle.lq_solving.specs.Claims.{IsPlain}
 use Rattle.lq_solving.specs.Kept.{IsStore, IsContext, Stands}
 use Rattle.lq_sessions.specs.Sessions.{Work}
 use Rattle.lq_sessions.specs.Declaring.{Row, row_of, solved_work}

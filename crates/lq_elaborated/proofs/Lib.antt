@@ -12,3 +12,4 @@ pub mod StatementLaws
 pub mod SentenceLaws
 pub mod CheckLaws
 pub mod DefineLaws
+pub mod WholeFamily

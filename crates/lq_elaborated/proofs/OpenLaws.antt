@@ -1,5 +1,5 @@
 -- A family that is being declared, in the environment.
-use Rattle.std.proofs.Common.{◌≡◌, ◌∙◌, sym, ap, subst, ℕ, [], ◌∷◌, ◌++◌, List, Option, Some, None, Result, Ok, Err, Bool, true, false}
+use Rattle.std.proofs.Common.{◌≡◌, ◌∙◌, sym, ap, subst, ℕ, [], ◌∷◌, ◌++◌, List, Option, Some, None, Result, Ok, Err, true, false}
 use Rattle.lq_trees.specs.Fresh.{is_listed}
 use Rattle.lq_trees.specs.Tree.{Name, Tree}
 use Rattle.lq_calculus.specs.Declarations.{Env as Environment, EnvFault as Fault, arity, name_taken, names_of}
@@ -11,7 +11,6 @@ use Rattle.lq_terms.specs.Terms.{Terms, HasTerm, tree_of}
 use Rattle.lq_env.specs.declared.environment.Declared.{Declared}
 use Rattle.lq_env.specs.declared.family.EnvFault.{EnvFault}
 use Rattle.lq_env.specs.Environments.{Adds, env_of, fault_in, with_arity}
-use Rattle.lq_env.specs.Families.{Refuses}
 use Rattle.lq_solving.specs.Claims.{ArePlainDeclarations, IsPlain}
 use Rattle.lq_elab.proofs.PlainDeclarations.{declarations_joined}
 use Rattle.lq_sessions.specs.Sessions.{Work}

@@ -6,7 +6,7 @@ ghost use Rattle.lq_trees.specs.declared.Fit.{Fit};
 ghost use Rattle.lq_trees.specs.Size.{fit};
 ghost use Rattle.lq_calculus.specs.Declarations.{arity, names_of};
 ghost use Rattle.lq_calculus.specs.Typing.{DerivedEnv};
-ghost use Rattle.lq_ast.specs.Plain.{plain};
+ghost use Rattle.lq_ast.specs.Plain.{plain, plain_binders, joined};
 ghost use Rattle.lq_ast.specs.PlainCommands.{plain_constructor};
 ghost use Rattle.lq_terms.specs.Contexts.{HasContext, context_of};
 ghost use Rattle.lq_terms.specs.Terms.{HasName, HasTerm, text_of, tree_of, Grows};
@@ -17,12 +17,12 @@ ghost use Rattle.lq_solving.specs.Stores.{read};
 ghost use Rattle.lq_evars.specs.Places.{store_of, HasStore};
 ghost use Rattle.lq_goals.specs.Seen.{IsReadable};
 ghost use Rattle.lq_declaring.specs.Constants.{Declares};
-ghost use Rattle.lq_sessions.specs.Declaring.{type_work, constructors_work};
+ghost use Rattle.lq_sessions.specs.Declaring.{type_work, constructors_work, family_work};
 ghost use Rattle.lq_elaborated.specs.Families.{FindsConstructor, FindsConstructors, arity_work, constructed_work};
 
 use crate::arities::arity_read;
-use crate::terms::type_in;
-use lq_ast::Constructor;
+use crate::terms::{term_in, type_in};
+use lq_ast::{Binders, Constructor, Surface};
 use lq_causes::Stop;
 use lq_declaring::declare_inductive;
 use lq_elab::Written;
@@ -73,7 +73,7 @@ fn constructor_in<L: Ledger>(
 /// The constructors of a family in order, with the family in the environment and its parameters as the context: each type is elaborated
 /// over what the store has from those before, and must have a sort. It pays the ticks of elaboration. Refused as elaboration refuses, and
 /// as `NotASort` with the weak head form of a type's own type. See the Rocq reference manual, "Inductive types".
-pub fn constructors_in<L: Ledger>(
+fn constructors_in<L: Ledger>(
     work: &mut Work<'_, '_>,
     env: &Env,
     store: &mut Store,
@@ -249,6 +249,63 @@ fn declare_behind<L: Ledger>(
             arity,
             kind,
             &row.parameters,
+            constructors,
+            steps,
+        ),
+        Err(stop) => Err(stop),
+    }
+}
+
+/// A family, from its parameters, its arity and its constructors as they are written, and the number of names that the parameters bind.
+/// The arity is elaborated, must be a row of products that ends in a sort, and may have no variable without a value; then each
+/// constructor's type is elaborated over the parameters, with the family in the environment; then no variable may be without a value, the
+/// terms as they read keep within the limits, the arity first, and the kernel checks and declares the family. All of it is paid by one
+/// budget. After a refusal the environment is as before. See the Rocq reference manual, "Inductive types".
+pub fn define_family<L: Ledger>(
+    work: &mut Work<'_, '_>,
+    env: &mut Env,
+    name: NameId,
+    groups: &[Binders],
+    parameters: usize,
+    kind: &Surface,
+    constructors: &[Constructor],
+    steps: &mut Steps<L>,
+) -> Result<(), Stop>
+    requires env { IsEnv work.old.bank.now env.old }
+    requires plain { ArePlainDeclarations (env_of work.old.bank.now env.old) }
+    requires name { HasName work.old.bank.now name }
+    requires new { is_listed (names_of (env_of work.old.bank.now env.old)) (text_of work.old.bank.now name) ≡ false }
+    requires count { parameters ≡ length (joined (map plain_binders groups.now)) }
+    requires few { length constructors.now < 4294967296 }
+    ensures answer { Declares work.new.bank.now result env.new (λ n. family_work (env_of work.old.bank.now env.old) n
+        (text_of work.old.bank.now name) (joined (map plain_binders groups.now)) (plain kind.now) (map plain_constructor constructors.now))
+        work.old.ticks.now.left work.new.ticks.now.left }
+    ensures plain { OnOk result (ArePlainDeclarations (env_of work.new.bank.now env.new)) }
+    ensures derived { OnOk result (DerivedEnv (env_of work.old.bank.now env.old) → DerivedEnv (env_of work.new.bank.now env.new)) }
+    ensures env { IsEnv work.new.bank.now env.new }
+    ensures extends { OnOk result (Extends env.old env.new) }
+    ensures kept { OnErr result (env.new ≡ env.old) }
+    ensures same_bank { work.new.bank.ghost_name ≡ work.old.bank.ghost_name }
+    ensures same_ticks { work.new.ticks.ghost_name ≡ work.old.ticks.ghost_name }
+    ensures grows { Grows work.old.bank.now work.new.bank.now }
+    ensures budget { work.new.ticks.now.left + work.new.ticks.now.spent ≡ work.old.ticks.now.left + work.old.ticks.now.spent }
+    ensures counted { steps.new + work.old.ticks.now.spent ≡ steps.old + work.new.ticks.now.spent }
+{
+    let alloc = work.bank.allocator();
+    let context = Context::new(alloc);
+    let mut store = match Store::new(alloc) {
+        Ok(store) => store,
+        Err(_) => return Err(Stop::NoMemory),
+    };
+    let arity = Written::Forall(groups, kind);
+    match term_in(work, env, &mut store, &context, arity, None, steps) {
+        Ok(found) => declare_behind(
+            work,
+            env,
+            &mut store,
+            name,
+            parameters,
+            found.term,
             constructors,
             steps,
         ),

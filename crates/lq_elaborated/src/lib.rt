@@ -12,7 +12,7 @@ mod terms;
 pub use arities::arity_read;
 pub use checking::check_term;
 pub use defining::define;
-pub use families::constructors_in;
+pub use families::define_family;
 pub use faults::stop_of;
 pub use stating::state;
 pub use terms::{Typed, term_in, type_in};

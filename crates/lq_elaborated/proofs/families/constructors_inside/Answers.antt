@@ -1,4 +1,4 @@
-use Rattle.std.proofs.Common.{[], ◌∷◌, ◌++◌, subst, sym, refl}
+use Rattle.std.proofs.Common.{[], ◌∷◌, ◌++◌, subst, sym}
 use Rattle.std.specs.Prelude.{map}
 use Rattle.lq_ast.specs.PlainCommands.{plain_constructor}
 use Rattle.lq_calculus.specs.Declarations.{arity}

@@ -71,4 +71,3 @@ returns-in-Err-clause-answer g c =
 pub returns-in-Err-clause-env : goal.returns-in-Err-clause-env
 returns-in-Err-clause-env g c =
     IsEnv-grown c.args.work.now.bank.now c.arity_read.new.bank c.in-Err.ensures.grows c.args.env.now c.requires.env
-

@@ -1,4 +1,4 @@
-use Rattle.std.proofs.Common.{◌∙◌, [], ◌∷◌, ◌++◌, sym, subst, arith}
+use Rattle.std.proofs.Common.{[], ◌∷◌, ◌++◌, sym, subst}
 use Rattle.std.specs.Prelude.{map}
 use Rattle.std.specs.List.{AllByRecursion}
 use Rattle.lq_ast.specs.PlainCommands.{plain_constructor}
@@ -63,4 +63,3 @@ returns-in-Err-clause-answer g c =
 pub returns-in-Err-clause-env : goal.returns-in-Err-clause-env
 returns-in-Err-clause-env g c =
     subst (IsEnv c.constructors_inside.new.work.bank.now) (sym c.in-Err.ensures.kept) (IsEnv-grown c.args.work.now.bank.now c.constructors_inside.new.work.bank.now c.in-Err.ensures.grows c.args.env.now c.requires.env)
-
