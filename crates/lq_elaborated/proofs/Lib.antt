@@ -13,3 +13,4 @@ pub mod SentenceLaws
 pub mod CheckLaws
 pub mod DefineLaws
 pub mod WholeFamily
+pub mod NamingLaws

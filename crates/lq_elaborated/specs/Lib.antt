@@ -4,3 +4,4 @@ pub mod Defining
 pub mod Stating
 pub mod Checking
 pub mod Families
+pub mod Naming
