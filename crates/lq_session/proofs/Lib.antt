@@ -4,3 +4,4 @@ pub mod DeclareLaws
 pub mod CheckLaws
 pub mod EndLaws
 pub mod CommandLaws
+pub mod InductiveLaws

@@ -7,6 +7,7 @@ mod checking;
 mod commands;
 mod defining;
 mod ending;
+mod families;
 mod opened;
 mod printing;
 mod showing;
@@ -20,6 +21,7 @@ pub use commands::{
 };
 pub use defining::define_constant;
 pub use ending::end_proof;
+pub use families::declare_family;
 pub use opened::{Opened, Session};
 pub use printing::print;
 pub use showing::show;
