@@ -3,6 +3,7 @@
 ghost use Rattle.std.specs.Prelude.{◌≡◌, None, OnErr};
 ghost use Rattle.lq_terms.specs.Terms.{Terms};
 ghost use Rattle.lq_sessions.specs.Sessions.{needs_proof, accepted, with_opened};
+ghost use Rattle.lq_env.specs.Environments.{Extends};
 ghost use Rattle.lq_session.specs.Sessions.{session_of, IsSession, Does};
 
 use crate::opened::Session;
@@ -27,6 +28,9 @@ pub fn abort_proof(alloc: Global, session: &mut Session) -> Result<Text, Stop>
     ensures answer { (bank : Terms) → Does bank bank result session.old session.new (needs_proof (session_of bank session.old)
         (λ o. accepted (with_opened (session_of bank session.old) None))) }
     ensures session { (bank : Terms) → IsSession bank session.old → IsSession bank session.new }
+    ensures extends { Extends session.old.env session.new.env }
+    ensures same_steps { session.new.steps ≡ session.old.steps }
+    ensures same_kernel { session.new.kernel ≡ session.old.kernel }
     ensures kept { OnErr result (session.new ≡ session.old) }
 {
     if session.opened.is_none() {

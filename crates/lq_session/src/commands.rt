@@ -7,6 +7,7 @@ ghost use Rattle.lq_ast.specs.declared.sentence.Vernac.{Vernac};
 ghost use Rattle.std.specs.Option.{option_copied};
 ghost use Rattle.lq_terms.specs.Terms.{Terms, IsName, Grows};
 ghost use Rattle.lq_sessions.specs.Sentences.{command_done};
+ghost use Rattle.lq_env.specs.Environments.{Extends};
 ghost use Rattle.lq_session.specs.Sessions.{session_of, IsSession, Does};
 
 use crate::aborting::{abort_proof, begin_proof};
@@ -88,6 +89,9 @@ pub fn command_definition<L: Ledger>(
     ensures answer { Does work.old.bank.now work.new.bank.now result session.old session.new (command_done (session_of work.old.bank.now session.old)
         (plain_vernac (Vernac.Definition name.now groups (option_copied kind.entry) body.now))) }
     ensures session { IsSession work.new.bank.now session.new }
+    ensures extends { Extends session.old.env session.new.env }
+    ensures same_steps { session.new.steps ≡ session.old.steps }
+    ensures same_kernel { session.new.kernel ≡ session.old.kernel }
     ensures kept { OnErr result (session.new ≡ session.old) }
     ensures same_bank { work.new.bank.ghost_name ≡ work.old.bank.ghost_name }
     ensures same_ticks { work.new.ticks.ghost_name ≡ work.old.ticks.ghost_name }
@@ -119,6 +123,9 @@ pub fn command_theorem<L: Ledger>(
     ensures lemma { Does work.old.bank.now work.new.bank.now result session.old session.new (command_done (session_of work.old.bank.now session.old)
         (plain_vernac (Vernac.Lemma name.now groups kind.now))) }
     ensures session { IsSession work.new.bank.now session.new }
+    ensures extends { Extends session.old.env session.new.env }
+    ensures same_steps { session.new.steps ≡ session.old.steps }
+    ensures same_kernel { session.new.kernel ≡ session.old.kernel }
     ensures kept { OnErr result (session.new ≡ session.old) }
     ensures same_bank { work.new.bank.ghost_name ≡ work.old.bank.ghost_name }
     ensures same_ticks { work.new.ticks.ghost_name ≡ work.old.ticks.ghost_name }
@@ -180,6 +187,9 @@ pub fn command_qed<L: Ledger>(
     ensures answer { Does work.old.bank.now work.new.bank.now result session.old session.new (command_done (session_of work.old.bank.now session.old)
         (plain_vernac Vernac.Qed)) }
     ensures session { IsSession work.new.bank.now session.new }
+    ensures extends { Extends session.old.env session.new.env }
+    ensures same_steps { session.new.steps ≡ session.old.steps }
+    ensures same_kernel { session.new.kernel ≡ session.old.kernel }
     ensures kept { OnErr result (session.new ≡ session.old) }
     ensures same_bank { work.new.bank.ghost_name ≡ work.old.bank.ghost_name }
     ensures same_ticks { work.new.ticks.ghost_name ≡ work.old.ticks.ghost_name }
@@ -201,6 +211,9 @@ pub fn command_defined<L: Ledger>(
     ensures answer { Does work.old.bank.now work.new.bank.now result session.old session.new (command_done (session_of work.old.bank.now session.old)
         (plain_vernac Vernac.Defined)) }
     ensures session { IsSession work.new.bank.now session.new }
+    ensures extends { Extends session.old.env session.new.env }
+    ensures same_steps { session.new.steps ≡ session.old.steps }
+    ensures same_kernel { session.new.kernel ≡ session.old.kernel }
     ensures kept { OnErr result (session.new ≡ session.old) }
     ensures same_bank { work.new.bank.ghost_name ≡ work.old.bank.ghost_name }
     ensures same_ticks { work.new.ticks.ghost_name ≡ work.old.ticks.ghost_name }
@@ -222,6 +235,9 @@ pub fn command_proof(alloc: Global, session: &Session) -> Result<Text, Stop>
 pub fn command_abort(alloc: Global, session: &mut Session) -> Result<Text, Stop>
     ensures answer { (bank : Terms) → Does bank bank result session.old session.new (command_done (session_of bank session.old) (plain_vernac Vernac.Abort)) }
     ensures session { (bank : Terms) → IsSession bank session.old → IsSession bank session.new }
+    ensures extends { Extends session.old.env session.new.env }
+    ensures same_steps { session.new.steps ≡ session.old.steps }
+    ensures same_kernel { session.new.kernel ≡ session.old.kernel }
     ensures kept { OnErr result (session.new ≡ session.old) }
 {
     abort_proof(alloc, session)

@@ -5,6 +5,7 @@ ghost use Rattle.lq_ast.specs.Plain.{plain, plain_binders, joined};
 ghost use Rattle.lq_terms.specs.Terms.{HasName, text_of, Grows};
 ghost use Rattle.lq_sessions.specs.Sessions.{needs_none, needs_new};
 ghost use Rattle.lq_sessions.specs.Declaring.{defined};
+ghost use Rattle.lq_env.specs.Environments.{Extends};
 ghost use Rattle.lq_session.specs.Sessions.{session_of, IsSession, Does};
 
 use crate::allowed::may_declare;
@@ -36,6 +37,9 @@ pub fn define_constant<L: Ledger>(
         (defined (session_of work.old.bank.now session.old) (text_of work.old.bank.now name) (joined (map plain_binders groups.now))
         (option_map (λ A. plain A.now) kind.entry) (plain body.now)))) }
     ensures session { IsSession work.new.bank.now session.new }
+    ensures extends { Extends session.old.env session.new.env }
+    ensures same_steps { session.new.steps ≡ session.old.steps }
+    ensures same_kernel { session.new.kernel ≡ session.old.kernel }
     ensures kept { OnErr result (session.new ≡ session.old) }
     ensures same_bank { work.new.bank.ghost_name ≡ work.old.bank.ghost_name }
     ensures same_ticks { work.new.ticks.ghost_name ≡ work.old.ticks.ghost_name }

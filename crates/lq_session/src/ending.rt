@@ -4,6 +4,7 @@ ghost use Rattle.std.specs.Prelude.{◌≡◌, ◌+◌, ◌++◌, codes, IfOk, O
 ghost use Rattle.lq_terms.specs.Terms.{HasName, text_of, Grows};
 ghost use Rattle.lq_sessions.specs.Sessions.{needs_proof};
 ghost use Rattle.lq_sessions.specs.Declaring.{is_defined, closed};
+ghost use Rattle.lq_env.specs.Environments.{Extends};
 ghost use Rattle.lq_session.specs.Sessions.{session_of, IsSession, Does};
 
 use crate::opened::Session;
@@ -39,6 +40,9 @@ pub fn end_proof<L: Ledger>(
     ensures answer { Does work.old.bank.now work.new.bank.now result session.old session.new (needs_proof (session_of work.old.bank.now session.old)
         (λ o. closed (session_of work.old.bank.now session.old) o opaque)) }
     ensures session { IsSession work.new.bank.now session.new }
+    ensures extends { Extends session.old.env session.new.env }
+    ensures same_steps { session.new.steps ≡ session.old.steps }
+    ensures same_kernel { session.new.kernel ≡ session.old.kernel }
     ensures kept { OnErr result (session.new ≡ session.old) }
     ensures same_bank { work.new.bank.ghost_name ≡ work.old.bank.ghost_name }
     ensures same_ticks { work.new.ticks.ghost_name ≡ work.old.ticks.ghost_name }

@@ -3,6 +3,7 @@
 
 mod aborting;
 mod allowed;
+mod aside;
 mod checking;
 mod commands;
 mod defining;
@@ -14,6 +15,7 @@ mod showing;
 mod stating;
 
 pub use aborting::{abort_proof, begin_proof};
+pub use aside::Aside;
 pub use checking::check;
 pub use commands::{
     command_abort, command_check, command_defined, command_definition, command_print,

@@ -8,6 +8,7 @@ ghost use Rattle.lq_solving.specs.Stores.{no_variables};
 ghost use Rattle.lq_terms.specs.Terms.{HasName, text_of, tree_of, Grows};
 ghost use Rattle.lq_sessions.specs.Sessions.{needs_none, needs_new};
 ghost use Rattle.lq_sessions.specs.Declaring.{stated};
+ghost use Rattle.lq_env.specs.Environments.{Extends};
 ghost use Rattle.lq_session.specs.Sessions.{session_of, IsSession, Does, IsOpened, opened_of, opened_by};
 
 use crate::allowed::may_declare;
@@ -53,6 +54,9 @@ pub fn state_theorem<L: Ledger>(
         (needs_new (session_of work.old.bank.now session.old) (text_of work.old.bank.now name)
         (stated (session_of work.old.bank.now session.old) (text_of work.old.bank.now name) (joined (map plain_binders groups.now)) (plain kind.now)))) }
     ensures session { IsSession work.new.bank.now session.new }
+    ensures extends { Extends session.old.env session.new.env }
+    ensures same_steps { session.new.steps ≡ session.old.steps }
+    ensures same_kernel { session.new.kernel ≡ session.old.kernel }
     ensures kept { OnErr result (session.new ≡ session.old) }
     ensures same_bank { work.new.bank.ghost_name ≡ work.old.bank.ghost_name }
     ensures same_ticks { work.new.ticks.ghost_name ≡ work.old.ticks.ghost_name }
