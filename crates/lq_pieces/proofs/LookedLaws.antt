@@ -21,7 +21,8 @@ use Rattle.lq_grammar.proofs.SpanLaws.{Rises, place_rises, IsWordAt, IsFoundAt, 
 use Rattle.lq_spelling.specs.Spellings.{Spells, IsCut}
 use Rattle.lq_spelling.proofs.SpellingLaws.{IsText, IsRead, window_text, text_cells}
 use Rattle.lq_spelling.proofs.StringLaws.{found_reads}
-use Rattle.lq_sessions.specs.Rest.{Looked, stopped, crossed, is_inside, may_go_on, looked, looked_behind, looked_begun, looked_at}
+use Rattle.lq_rest.proofs.LookLaws.{after_found}
+use Rattle.lq_sessions.specs.Rest.{Looked, stopped, is_inside, may_go_on, looked, looked_behind, looked_begun, looked_at}
 
 -- ---- a sentence begins with a token
 
@@ -194,15 +195,7 @@ Lookable text (Ok []) = Unit {0}
 Lookable text (Ok (t ∷ ts)) = IsCut text (t ∷ ts)
 Lookable text (Err f) = Unit {0}
 
--- what comes of what is found
-abbrev after_found : ℕ → List ℕ → List Token → Cells → Found → Looked
-after_found turns text ts cs nothing = Ok ts
-after_found turns text ts cs bound = Ok ts
-after_found turns text ts cs (space rest) = looked turns text ts rest
-after_found turns text ts cs (crossing k) = Ok (crossed ts k (place cs))
-after_found turns text ts cs (flaw f) = stopped text ts f
-after_found turns text ts cs (word t rest) = elim (may_go_on text t) [ true ↦ Ok ts | false ↦ looked turns text (ts ++ t ∷ []) rest ]
-
+-- what comes of what is found (`after_found`)
 looked-suc : (turns : ℕ) (text : List ℕ) (ts : List Token) (cs : Cells) → looked (suc turns) text ts cs ≡ after_found turns text ts cs (found (is_empty ts) cs)
 unfolding looked
 looked-suc turns text ts cs = refl
