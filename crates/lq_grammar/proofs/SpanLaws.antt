@@ -233,7 +233,7 @@ front_window L (letter p c cs) = step (nat_le (place cs) L) where
   step true = refl
   step false = refl
 
-first_spans : (L n : ℕ) (cs : Cells) → is_space cs ≡ false → Rises L n (window L cs) → IsWordAt L n (place (window L cs)) (found true (window L cs))
+pub first_spans : (L n : ℕ) (cs : Cells) → is_space cs ≡ false → Rises L n (window L cs) → IsWordAt L n (place (window L cs)) (found true (window L cs))
 unfolding window found place is_space
 first_spans L n (over p) e r = tt
 first_spans L n (broken p) e r = step (nat_lt p L) where

@@ -14,7 +14,7 @@ use Rattle.lq_kernel.proofs.Grown.{env_at}
 none_some : (f : Fault) → ◌≡◌ {A = Option Fault} None (Some f) → ⊥
 none_some f h = cc
 
-only_memory : (bank : Terms) (e : EnvFault) (r : Result Environment Fault) (new : Environment) → r ≡ Ok new → Refuses bank e (fault_in r) → e ≡ EnvFault.NoMemory
+pub only_memory : (bank : Terms) (e : EnvFault) (r : Result Environment Fault) (new : Environment) → r ≡ Ok new → Refuses bank e (fault_in r) → e ≡ EnvFault.NoMemory
 only_memory bank (EnvFault.NameTaken x) r new i h = absurd (none_some _ (sym (ap fault_in i) ∙ h.1))
 only_memory bank (EnvFault.NotPositive x k) r new i h = absurd (none_some _ (sym (ap fault_in i) ∙ h.1))
 only_memory bank (EnvFault.NestedUse x k) r new i h = absurd (none_some _ (sym (ap fault_in i) ∙ h.1))

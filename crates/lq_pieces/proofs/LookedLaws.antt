@@ -1,174 +1,20 @@
 -- The tokens that can be looked at of a text that goes on are cut.
-use Rattle.std.proofs.Common.{◌≡◌, ◌∙◌, refl, sym, ap, subst, arith, length-drop, Option, Some, None, if◌then◌else◌, ℕ, zero, suc, ◌+◌, ◌^◌, ◌<◌, ◌≤◌, Bool, true, false, List, [], ◌∷◌, ◌++◌, drop, length, Ok, Err, inl, inr}
-use Rattle.std.specs.Prelude.{nat_lt, nat_le, All}
+use Rattle.std.proofs.Common.{◌≡◌, refl, sym, ap, subst, arith, length-drop, ℕ, zero, suc, ◌+◌, ◌<◌, ◌≤◌, Bool, true, false, List, [], ◌∷◌, ◌++◌, drop, length, Ok, Err, inl, inr}
+use Rattle.std.specs.Prelude.{All}
 use Rattle.std.proofs.lemmas.List.Elements.{All-push}
-use Rattle.lq_grammar.specs.declared.fault.LexFault.{LexFault}
-use Rattle.lq_grammar.specs.declared.fault.LexFault.TheVariants.{BadChar, BadNumber}
 use Rattle.lq_grammar.specs.declared.token.Token.{Token}
-use Rattle.lq_grammar.specs.declared.token.Class.{Class}
-use Rattle.lq_grammar.specs.declared.token.Class.TheVariants as class
-use Rattle.lq_grammar.specs.declared.token.Symbol.{Symbol}
-use Rattle.lq_grammar.specs.declared.token.TokenKind.{TokenKind}
-use Rattle.lq_grammar.specs.declared.token.TokenKind.TheVariants as kind
-use Rattle.lq_grammar.specs.Cells.{Cells, over, broken, beyond, letter, cells, place, front, window, goes_on}
-use Rattle.lq_grammar.specs.Tokens.{Found, nothing, bound, space, word, crossing, flaw, token, continues_name, string_from, name_at, number_by, bullet_at, pair_of, single_of, is_clear, single_at, pair_at, symbol_at, class_of, found_at, found}
+use Rattle.lq_grammar.specs.Cells.{Cells, cells, place, window}
+use Rattle.lq_grammar.specs.Tokens.{Found, nothing, bound, space, word, crossing, flaw, token, found}
 use Rattle.lq_grammar.specs.Selectors.{spelled, is_empty}
-use Rattle.lq_grammar.specs.Cutting.{longest, is_space_class, is_space}
+use Rattle.lq_grammar.specs.Cutting.{longest, is_space}
 use Rattle.lq_grammar.specs.Spans.{AreSpans}
 use Rattle.lq_grammar.proofs.CellLaws.{place_window}
-use Rattle.lq_grammar.proofs.Turns.{class_by, class_of-by}
-use Rattle.lq_grammar.proofs.SpanLaws.{Rises, place_rises, IsWordAt, IsFoundAt, found_spans, window_rises, cells_rise}
+use Rattle.lq_grammar.proofs.SpanLaws.{Rises, place_rises, IsWordAt, IsFoundAt, found_spans, first_spans, window_rises, cells_rise}
 use Rattle.lq_spelling.specs.Spellings.{Spells, IsCut}
 use Rattle.lq_spelling.proofs.SpellingLaws.{IsText, IsRead, window_text, text_cells}
 use Rattle.lq_spelling.proofs.StringLaws.{found_reads}
 use Rattle.lq_rest.proofs.LookLaws.{after_found}
 use Rattle.lq_sessions.specs.Rest.{Looked, stopped, is_inside, may_go_on, looked, looked_behind, looked_begun, looked_at}
-
--- ---- a sentence begins with a token
-
--- what is found is no space
-unfoldable IsWord : Found → Type 0
-IsWord (space rest) = ⊥
-IsWord _ = Unit {0}
-
-crossed_word : (k : TokenKind) → IsWord (crossing k)
-unfolding IsWord
-crossed_word k = tt
-
-flaw_word : (f : LexFault) → IsWord (flaw f)
-unfolding IsWord
-flaw_word f = tt
-
-token_word : (t : Token) (rest : Cells) → IsWord (word t rest)
-unfolding IsWord
-token_word t rest = tt
-
-bound_word : IsWord bound
-unfolding IsWord
-bound_word = tt
-
-nothing_word : IsWord nothing
-unfolding IsWord
-nothing_word = tt
-
--- a class that is neither blanks nor comments
-abbrev IsWordClass : Class → Type 0
-IsWordClass class.Blank = ⊥
-IsWordClass class.Comment = ⊥
-IsWordClass _ = Unit {0}
-
-either_word : (b : Bool) (f g : Found) → IsWord f → IsWord g → IsWord (elim b as (λ _. Found) [ true ↦ f | false ↦ g ])
-either_word true f g h i = h
-either_word false f g h i = i
-
-if_word : (b : Bool) (f g : Found) → IsWord f → IsWord g → IsWord (if b then f else g)
-if_word true f g h i = h
-if_word false f g h i = i
-
-string_word : (start : ℕ) (closing : Bool) (cs : Cells) → IsWord (string_from start closing cs)
-unfolding string_from
-string_word start false (over p) = flaw_word _
-string_word start false (broken p) = flaw_word _
-string_word start false (beyond p c) = crossed_word _
-string_word start false (letter p c cs) = string_word start _ cs
-string_word start true (over p) = token_word _ _
-string_word start true (broken p) = token_word _ _
-string_word start true (beyond p c) = either_word _ _ _ (crossed_word _) (token_word _ _)
-string_word start true (letter p c cs) = either_word _ _ _ (string_word start false cs) (token_word _ _)
-
-bullet_word : (p c : ℕ) (cs : Cells) → IsWord (bullet_at p c cs)
-unfolding bullet_at
-bullet_word p c cs = if_word _ _ _ (crossed_word _) (token_word _ _)
-
-name_word : (p : ℕ) (cs : Cells) → IsWord (name_at p cs)
-unfolding name_at
-name_word p cs = if_word _ _ _ (flaw_word _) (if_word _ _ _ (crossed_word _) (token_word _ _))
-
-number_word : (p m : ℕ) (rest : Cells) → IsWord (number_by p m rest)
-unfolding number_by
-number_word p m rest = step (nat_le (2 ^ 128) m) (goes_on continues_name rest) (continues_name (front rest)) where
-  step : (a b d : Bool) → IsWord (if a then flaw (BadNumber p) else if b then crossing (kind.Number m) else if d then flaw (BadNumber p) else token (kind.Number m) p rest)
-  step true b d = flaw_word _
-  step false true d = crossed_word _
-  step false false true = flaw_word _
-  step false false false = token_word _ _
-
-pair_word : (s : Symbol) (p : ℕ) (cs : Cells) → IsWord (pair_at s p cs)
-unfolding pair_at
-pair_word s p (over q) = crossed_word _
-pair_word s p (broken q) = crossed_word _
-pair_word s p (beyond q d) = crossed_word _
-pair_word s p (letter q d cs) = token_word _ _
-
-symbol_word : (p c : ℕ) (cs : Cells) → IsWord (symbol_at p c cs)
-unfolding symbol_at single_at
-symbol_word p c cs = step (pair_of c (front cs)) (single_of (is_clear cs) c) where
-  step : (o w : Option Symbol) → IsWord (elim o as (λ _. Found) [ Some s ↦ pair_at s p cs | None ↦ elim w as (λ _. Found) [ Some s ↦ token (kind.Symbol s) p cs | None ↦ flaw (BadChar p) ] ])
-  step (Some s) w = pair_word s p cs
-  step None (Some s) = token_word _ _
-  step None None = flaw_word _
-
-class_word : (k : Class) (p c : ℕ) (cs : Cells) → IsWordClass k → IsWord (found_at k p c cs)
-unfolding found_at
-class_word class.Blank p c cs is = absurd is
-class_word class.Comment p c cs is = absurd is
-class_word class.Bullet p c cs is = bullet_word p c cs
-class_word class.Text p c cs is = string_word p false cs
-class_word class.Number p c cs is = number_word p _ _
-class_word class.Name p c cs is = name_word p cs
-class_word class.Symbol p c cs is = symbol_word p c cs
-
--- what begins no space inside a sentence begins none at its start
-word_class_by : (blank comment bullet other text digit low continued starts : Bool) → is_space_class (class_by blank comment other text digit low continued starts) ≡ false →
-    IsWordClass (class_by blank comment bullet text digit low continued starts)
-unfolding class_by
-word_class_by true comment bullet other text digit low continued starts e = absurd cc
-word_class_by false true bullet other text digit low continued starts e = absurd cc
-word_class_by false false true other text digit low continued starts e = tt
-word_class_by false false false other true digit low continued starts e = tt
-word_class_by false false false other false true low continued starts e = tt
-word_class_by false false false other false false true true starts e = tt
-word_class_by false false false other false false true false starts e = tt
-word_class_by false false false other false false false continued true e = tt
-word_class_by false false false other false false false continued false e = tt
-
-word_class : (c d : ℕ) → is_space_class (class_of false c d) ≡ false → IsWordClass (class_of true c d)
-word_class c d e = subst IsWordClass (sym (class_of-by true c d)) (word_class_by _ _ _ _ _ _ _ _ _ (sym (ap is_space_class (class_of-by false c d)) ∙ e))
-
-front_window : (L : ℕ) (cs : Cells) → front (window L cs) ≡ front cs
-unfolding window front
-front_window L (over p) = refl
-front_window L (broken p) = step (nat_lt p L) where
-  step : (b : Bool) → front (elim b as (λ _. Cells) [ true ↦ broken p | false ↦ beyond p 0 ]) ≡ 0
-  step true = refl
-  step false = refl
-front_window L (beyond p c) = refl
-front_window L (letter p c cs) = step (nat_le (place cs) L) where
-  step : (b : Bool) → front (elim b as (λ _. Cells) [ true ↦ letter p c (window L cs) | false ↦ beyond p c ]) ≡ c
-  step true = refl
-  step false = refl
-
-begins_word : (L : ℕ) (cs : Cells) → is_space cs ≡ false → IsWord (found true (window L cs))
-unfolding window found is_space
-begins_word L (over p) e = nothing_word
-begins_word L (broken p) e = step (nat_lt p L) where
-  step : (b : Bool) → IsWord (found true (elim b as (λ _. Cells) [ true ↦ broken p | false ↦ beyond p 0 ]))
-  step true = flaw_word _
-  step false = bound_word
-begins_word L (beyond p c) e = bound_word
-begins_word L (letter p c cs) e = step (nat_le (place cs) L) where
-  step : (b : Bool) → IsWord (found true (elim b as (λ _. Cells) [ true ↦ letter p c (window L cs) | false ↦ beyond p c ]))
-  step true = class_word (class_of true c (front (window L cs))) p c (window L cs) (word_class c (front (window L cs)) (ap (λ d. is_space_class (class_of false c d)) (front_window L cs) ∙ e))
-  step false = bound_word
-
-word_at : (L n at : ℕ) (f : Found) → IsWord f → IsFoundAt L n at f → IsWordAt L n at f
-unfolding IsWord
-word_at L n at nothing w h = tt
-word_at L n at bound w h = tt
-word_at L n at (space rest) w h = absurd w
-word_at L n at (word t rest) w h = h
-word_at L n at (crossing k) w h = h
-word_at L n at (flaw fault) w h = tt
 
 -- ---- where the tokens stand
 
@@ -272,8 +118,7 @@ begun_lookable (suc turns) text cs c r =
           let same = place_window (place cs + longest) cs in
           let w = window_rises (place cs + longest) (length text) cs r in
           looked_first (suc (length text)) text (place cs + longest) (window (place cs + longest) cs) (ap (λ p. p + longest) (sym same)) (window_text text (place cs + longest) cs c) w
-          (word_at (place cs + longest) (length text) (place (window (place cs + longest) cs)) (found true (window (place cs + longest) cs)) (begins_word (place cs + longest) cs e)
-          (found_spans (place cs + longest) (length text) true (window (place cs + longest) cs) w))
+          (first_spans (place cs + longest) (length text) cs e w)
 
       behind : (go : Cells → Looked) → ((rest : Cells) → IsText text rest → Rises (length text) (length text) rest → Lookable text (go rest)) →
           (f : Found) → IsFoundAt (length text) (length text) (place cs) f → IsRead text f → Lookable text (looked_behind text go f)

@@ -65,7 +65,7 @@ module _ (c : Scene) (s : IsScene c) where
   leaf_stands : (s0 : Store) → IsStore s0 → (t : Tree) → IsGood s0.variables [] (names_in c.context) 0 t → StandsIn s0 c.context t
   leaf_stands s0 i t h = good_stands s0 i [] (names_in c.context) t h
 
-  exact_reached : (t : Surface) (d : Done) → HasRoom c (deep t) → Gives (do_exact c t) d → IsReached c d
+  pub exact_reached : (t : Surface) (d : Done) → HasRoom c (deep t) → Gives (do_exact c t) d → IsReached c d
   unfolding do_exact
   exact_reached t d few y =
       let f = gives_bind (term_of c t (Some c.kind)) _ d y in
@@ -77,7 +77,7 @@ module _ (c : Scene) (s : IsScene c) where
       at f h [] z = along (IsReached c) z (record { grown = h.0; body = h.1; goals = none_new c.store f.store })
       at f h (k ∷ ks) z = absurd z
 
-  refine_reached : (t : Surface) (d : Done) → HasRoom c (deep t) → Gives (do_refine c t) d → IsReached c d
+  pub refine_reached : (t : Surface) (d : Done) → HasRoom c (deep t) → Gives (do_refine c t) d → IsReached c d
   unfolding do_refine
   refine_reached t d few y =
       let f = gives_bind (term_of c t (Some c.kind)) _ d y in
@@ -98,7 +98,7 @@ module _ (c : Scene) (s : IsScene c) where
       })
 
   -- the hypotheses that are looked through are those of the context
-  assumption_reached : (hs : Context) (d : Done) → AllByRecursion (λ h. is_listed (names_in c.context) h.name ≡ true) hs → Gives (first_assumption c hs) d → IsReached c d
+  pub assumption_reached : (hs : Context) (d : Done) → AllByRecursion (λ h. is_listed (names_in c.context) h.name ≡ true) hs → Gives (first_assumption c hs) d → IsReached c d
   unfolding first_assumption
   assumption_reached [] d l y = absurd y
   assumption_reached (h ∷ hs) d l y =
@@ -133,7 +133,7 @@ module _ (c : Scene) (s : IsScene c) where
   exists_finds t f h (Elim x u) e k p few y = absurd y
   exists_finds t f h (Evar j ts) e k p few y = absurd y
 
-  exists_reached : (t : Surface) (d : Done) → HasRoom c (deep t) → Gives (do_exists c t) d → IsReached c d
+  pub exists_reached : (t : Surface) (d : Done) → HasRoom c (deep t) → Gives (do_exists c t) d → IsReached c d
   unfolding do_exists
   exists_reached t d few y =
       let i = gives_bind (goal_inductive c >>= has_number 1) _ d y in
@@ -152,7 +152,7 @@ module _ (c : Scene) (s : IsScene c) where
       let u = gives_bind (elab_work (found_sort (site c) c.context a.0)) _ f a.2 in
       along (Finds c.store c.context) u.2 (term_found c s A None a.0 tt few a.1)
 
-  assert_reached : (x : Name) (A : Surface) (d : Done) → HasRoom c (deep A) → Gives (do_assert c x A) d → IsReached c d
+  pub assert_reached : (x : Name) (A : Surface) (d : Done) → HasRoom c (deep A) → Gives (do_assert c x A) d → IsReached c d
   unfolding do_assert under
   assert_reached x A d few y =
       let f = gives_bind (type_term c A) _ d y in
@@ -175,7 +175,7 @@ module _ (c : Scene) (s : IsScene c) where
         goals = two_new c.store f.0.store c.context (c.context ++ h ∷ []) r.0 q.0 k.0 k.0.store m p;
       })
 
-  cut_reached : (A : Surface) (d : Done) → HasRoom c (deep A) → Gives (do_cut c A) d → IsReached c d
+  pub cut_reached : (A : Surface) (d : Done) → HasRoom c (deep A) → Gives (do_cut c A) d → IsReached c d
   unfolding do_cut
   cut_reached A d few y =
       let f = gives_bind (term_of c A None) _ d y in
@@ -193,7 +193,7 @@ module _ (c : Scene) (s : IsScene c) where
         goals = two_new c.store f.0.store c.context c.context r.0 q.0 k.0 k.0.store m p;
       })
 
-  pose_reached : (x : Name) (t : Surface) (d : Done) → HasRoom c (deep t) → Gives (do_pose c x t) d → IsReached c d
+  pub pose_reached : (x : Name) (t : Surface) (d : Done) → HasRoom c (deep t) → Gives (do_pose c x t) d → IsReached c d
   unfolding do_pose under_let
   pose_reached x t d few y =
       let f = gives_bind (term_of c t None) _ d y in
@@ -210,7 +210,7 @@ module _ (c : Scene) (s : IsScene c) where
         goals = one_new c.store f.0.store (c.context ++ h ∷ []) r.0 k.0 k.0.store m;
       })
 
-  exfalso_reached : (d : Done) → Gives (do_exfalso c) d → IsReached c d
+  pub exfalso_reached : (d : Done) → Gives (do_exfalso c) d → IsReached c d
   unfolding do_exfalso
   exfalso_reached d y =
       let u = gives_bind (goal_sort c) _ d y in
@@ -227,7 +227,7 @@ module _ (c : Scene) (s : IsScene c) where
 
   -- ---- `reflexivity`
 
-  reflexive_reached : (t : Tree) (o : Option (Tree × Tree × Tree)) (d : Done) → HasRoom c 0 →
+  pub reflexive_reached : (t : Tree) (o : Option (Tree × Tree × Tree)) (d : Done) → HasRoom c 0 →
       ((e : Tree × Tree × Tree) → o ≡ Some e → StandsIn c.store c.context e.0 × StandsIn c.store c.context e.1 × StandsIn c.store c.context e.2) → Gives (reflexive c t o) d → IsReached c d
   unfolding reflexive
   reflexive_reached t None d few h y = absurd (told_none (t ∷ []) _ d y)
@@ -251,7 +251,7 @@ module _ (c : Scene) (s : IsScene c) where
             goals = none_new c.store s1;
           })
 
-  reflexivity_reached : (d : Done) → HasRoom c 0 → Gives (do_reflexivity c) d → IsReached c d
+  pub reflexivity_reached : (d : Done) → HasRoom c 0 → Gives (do_reflexivity c) d → IsReached c d
   unfolding do_reflexivity
   reflexivity_reached d few y =
       let t = gives_bind (head_of c c.store c.kind) _ d y in
