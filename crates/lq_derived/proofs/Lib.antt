@@ -1,0 +1,2 @@
+pub mod SentenceLaws
+pub mod FoldLaws
