@@ -42,6 +42,10 @@ term_found c s t w f h few y = call_finds (site c) c.store t w f at s.store h fe
     at : IsSite (site c) c.store c.context
     at = record { plain = s.plain; outer = s.context; inside = λ x l. l; values = s.values }
 
+-- a term that is written is found, whatever it is elaborated to
+abbrev pub IsFound : Scene → Surface → Option Tree → Type 0
+IsFound c t w = (f : Found) → Gives (term_of c t w) f → Finds c.store c.context f
+
 -- applied to terms
 pub apply_stands : (s : Store) → IsStore s → (xs : List Name) (f : Tree) (ts : List Tree) → Stands s xs f → AllByRecursion (Stands s xs) ts → Stands s xs (apply f ts)
 unfolding apply
@@ -269,8 +273,8 @@ apply_found_reached c i strict f d h few y =
     at T None k z = absurd (told_none (read f.store f.term ∷ T ∷ []) _ d z)
     at T (Some q) k z = applied_reached c i strict f q.0 q.1 d h k.0 k.1 z
 
-pub apply_reached : (c : Scene) → IsScene c → (strict : Bool) (t : Surface) (d : Done) → HasRoom c (deep t) → Gives (do_apply c strict t) d → IsReached c d
+pub apply_reached : (c : Scene) → IsScene c → (strict : Bool) (t : Surface) (d : Done) → IsFound c t None → HasRoom c 0 → Gives (do_apply c strict t) d → IsReached c d
 unfolding do_apply
-apply_reached c i strict t d few y =
+apply_reached c i strict t d find few y =
     let f = gives_bind (term_of c t None) _ d y in
-    apply_found_reached c i strict f.0 d (term_found c i t None f.0 tt few f.1) (omega (arith, few)) f.2
+    apply_found_reached c i strict f.0 d (find f.0 f.1) few f.2

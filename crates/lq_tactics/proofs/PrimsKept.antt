@@ -40,7 +40,7 @@ use Rattle.lq_tactics.proofs.PrimsSettled.{prim_settled}
 use Rattle.lq_tactics.proofs.RowsKept.{AreGiven, IsScene, AreNew, IsReached, IsStep, scene_is, scene_kept, head_good, goal_made, same_values, all_retyped, ended_kept}
 use Rattle.lq_tactics.proofs.StepsKept.{scene_valueless, IsThere, row_listed_kept}
 use Rattle.lq_tactics.proofs.IntroKept.{one_new, two_new, more_context, shut_stands, unused_new, intro_kept, intro_each_kept, intro_all_kept}
-use Rattle.lq_tactics.proofs.ApplyKept.{HasRoom, sides_stand, term_found, apply_found_reached, apply_reached, told_none}
+use Rattle.lq_tactics.proofs.ApplyKept.{HasRoom, IsFound, sides_stand, term_found, apply_found_reached, apply_reached, told_none}
 use Rattle.lq_tactics.proofs.ConstructorsKept.{goal_is_inductive, constructor_finds, numbered_reached, right_number, numbered_row_reached}
 
 -- no new goal
@@ -65,11 +65,11 @@ module _ (c : Scene) (s : IsScene c) where
   leaf_stands : (s0 : Store) → IsStore s0 → (t : Tree) → IsGood s0.variables [] (names_in c.context) 0 t → StandsIn s0 c.context t
   leaf_stands s0 i t h = good_stands s0 i [] (names_in c.context) t h
 
-  pub exact_reached : (t : Surface) (d : Done) → HasRoom c (deep t) → Gives (do_exact c t) d → IsReached c d
+  pub exact_reached : (t : Surface) (d : Done) → IsFound c t (Some c.kind) → Gives (do_exact c t) d → IsReached c d
   unfolding do_exact
-  exact_reached t d few y =
+  exact_reached t d find y =
       let f = gives_bind (term_of c t (Some c.kind)) _ d y in
-      let h = term_found c s t (Some c.kind) f.0 s.kind few f.1 in
+      let h = find f.0 f.1 in
       at f.0 h (made_open c.store f.0.store) f.2
     where
       at : (f : Found) → Finds c.store c.context f → (ks : List ℕ) →
@@ -77,11 +77,11 @@ module _ (c : Scene) (s : IsScene c) where
       at f h [] z = along (IsReached c) z (record { grown = h.0; body = h.1; goals = none_new c.store f.store })
       at f h (k ∷ ks) z = absurd z
 
-  pub refine_reached : (t : Surface) (d : Done) → HasRoom c (deep t) → Gives (do_refine c t) d → IsReached c d
+  pub refine_reached : (t : Surface) (d : Done) → IsFound c t (Some c.kind) → Gives (do_refine c t) d → IsReached c d
   unfolding do_refine
-  refine_reached t d few y =
+  refine_reached t d find y =
       let f = gives_bind (term_of c t (Some c.kind)) _ d y in
-      let h = term_found c s t (Some c.kind) f.0 s.kind few f.1 in
+      let h = find f.0 f.1 in
       let made = made_open c.store f.0.store in
       let a = gives_bind (as_goals c f.0.store (independent f.0.store made made)) _ d f.2 in
       let r = all_retyped c f.0.store a.0 (independent f.0.store made made) h.0.store a.1 in
@@ -110,53 +110,53 @@ module _ (c : Scene) (s : IsScene c) where
 
   -- ---- `exists`
 
-  exists_finds : (t : Surface) (f h : Found) (T : Tree) → f.store ≡ c.store → Finds c.store c.context f → StandsIn c.store c.context T → HasRoom c (deep t) → Gives (exists_found c t f T) h → Finds c.store c.context h
+  exists_finds : (t : Surface) (f h : Found) (T : Tree) → f.store ≡ c.store → Finds c.store c.context f → StandsIn c.store c.context T → ((A : Tree) → StandsIn c.store c.context A → IsFound c t (Some A)) → Gives (exists_found c t f T) h → Finds c.store c.context h
   unfolding exists_found
-  exists_finds t f h (Prod x A B) e k p few y =
+  exists_finds t f h (Prod x A B) e k p find y =
       let u = gives_bind (term_of c t (Some A)) _ h y in
-      let q = term_found c s t (Some A) u.0 (domain_stands c.store s.store (names_in c.context) x A B p) few u.1 in
+      let q = find A (domain_stands c.store s.store (names_in c.context) x A B p) u.0 u.1 in
       along (Finds c.store c.context) u.2 (
         q.0,
         app_stands u.0.store q.0.store (names_in c.context) f.term u.0.term (q.0.keeps (names_in c.context) f.term (along (λ z. Stands z (names_in c.context) f.term) e k.1)) q.1,
         subst_stands u.0.store q.0.store (names_in c.context) u.0.term B q.1
             (rest_stands u.0.store q.0.store (names_in c.context) x A B (q.0.keeps (names_in c.context) (Prod x A B) p)),
       )
-  exists_finds t f h (Rel x) e k p few y = absurd y
-  exists_finds t f h (Var x) e k p few y = absurd y
-  exists_finds t f h (Sort x) e k p few y = absurd y
-  exists_finds t f h (Lam x A u) e k p few y = absurd y
-  exists_finds t f h (Let x v A u) e k p few y = absurd y
-  exists_finds t f h (App u v) e k p few y = absurd y
-  exists_finds t f h (Const x) e k p few y = absurd y
-  exists_finds t f h (Ind x) e k p few y = absurd y
-  exists_finds t f h (Ctor x j) e k p few y = absurd y
-  exists_finds t f h (Elim x u) e k p few y = absurd y
-  exists_finds t f h (Evar j ts) e k p few y = absurd y
+  exists_finds t f h (Rel x) e k p find y = absurd y
+  exists_finds t f h (Var x) e k p find y = absurd y
+  exists_finds t f h (Sort x) e k p find y = absurd y
+  exists_finds t f h (Lam x A u) e k p find y = absurd y
+  exists_finds t f h (Let x v A u) e k p find y = absurd y
+  exists_finds t f h (App u v) e k p find y = absurd y
+  exists_finds t f h (Const x) e k p find y = absurd y
+  exists_finds t f h (Ind x) e k p find y = absurd y
+  exists_finds t f h (Ctor x j) e k p find y = absurd y
+  exists_finds t f h (Elim x u) e k p find y = absurd y
+  exists_finds t f h (Evar j ts) e k p find y = absurd y
 
-  pub exists_reached : (t : Surface) (d : Done) → HasRoom c (deep t) → Gives (do_exists c t) d → IsReached c d
+  pub exists_reached : (t : Surface) (d : Done) → ((A : Tree) → StandsIn c.store c.context A → IsFound c t (Some A)) → HasRoom c 0 → Gives (do_exists c t) d → IsReached c d
   unfolding do_exists
-  exists_reached t d few y =
+  exists_reached t d find few y =
       let i = gives_bind (goal_inductive c >>= has_number 1) _ d y in
       let f = gives_bind (constructor_found c i.0 0 (slice_get i.0.family.constructors 0)) _ d i.2 in
       let h = gives_bind (exists_found c t f.0 f.0.kind) (apply_found c true) d f.2 in
       let k = constructor_finds c s i.0 (right_number c s 1 i.0 i.1) 0 f.0 f.1 in
       let e = constructor_store c i.0 (slice_get i.0.family.constructors 0) f.0 f.1 in
-      apply_found_reached c s true h.0 d (exists_finds t f.0 h.0 f.0.kind e k (along (λ z. Stands z (names_in c.context) f.0.kind) e k.2) few h.1) (omega (arith, few)) h.2
+      apply_found_reached c s true h.0 d (exists_finds t f.0 h.0 f.0.kind e k (along (λ z. Stands z (names_in c.context) f.0.kind) e k.2) find h.1) few h.2
 
   -- ---- `assert`, `cut`, `pose`, `exfalso`
 
-  type_found : (A : Surface) (f : Found) → HasRoom c (deep A) → Gives (type_term c A) f → Finds c.store c.context f
+  type_found : (A : Surface) (f : Found) → IsFound c A None → Gives (type_term c A) f → Finds c.store c.context f
   unfolding type_term
-  type_found A f few y =
+  type_found A f find y =
       let a = gives_bind (term_of c A None) _ f y in
       let u = gives_bind (elab_work (found_sort (site c) c.context a.0)) _ f a.2 in
-      along (Finds c.store c.context) u.2 (term_found c s A None a.0 tt few a.1)
+      along (Finds c.store c.context) u.2 (find a.0 a.1)
 
-  pub assert_reached : (x : Name) (A : Surface) (d : Done) → HasRoom c (deep A) → Gives (do_assert c x A) d → IsReached c d
+  pub assert_reached : (x : Name) (A : Surface) (d : Done) → IsFound c A None → Gives (do_assert c x A) d → IsReached c d
   unfolding do_assert under
-  assert_reached x A d few y =
+  assert_reached x A d find y =
       let f = gives_bind (type_term c A) _ d y in
-      let k = type_found A f.0 few f.1 in
+      let k = type_found A f.0 find f.1 in
       let n = gives_bind (unused c x) _ d f.2 in
       let r = gives_bind (new_goal c f.0.store c.context f.0.term) _ d n.2 in
       let g = context_keeps c.store f.0.store k.0.keeps [] c.context s.context in
@@ -175,11 +175,11 @@ module _ (c : Scene) (s : IsScene c) where
         goals = two_new c.store f.0.store c.context (c.context ++ h ∷ []) r.0 q.0 k.0 k.0.store m p;
       })
 
-  pub cut_reached : (A : Surface) (d : Done) → HasRoom c (deep A) → Gives (do_cut c A) d → IsReached c d
+  pub cut_reached : (A : Surface) (d : Done) → IsFound c A None → Gives (do_cut c A) d → IsReached c d
   unfolding do_cut
-  cut_reached A d few y =
+  cut_reached A d find y =
       let f = gives_bind (term_of c A None) _ d y in
-      let k = term_found c s A None f.0 tt few f.1 in
+      let k = find f.0 f.1 in
       let g = context_keeps c.store f.0.store k.0.keeps [] c.context s.context in
       let kind = k.0.keeps (names_in c.context) c.kind s.kind in
       let r = gives_bind (new_goal c f.0.store c.context (Prod [] f.0.term c.kind)) _ d f.2 in
@@ -193,11 +193,11 @@ module _ (c : Scene) (s : IsScene c) where
         goals = two_new c.store f.0.store c.context c.context r.0 q.0 k.0 k.0.store m p;
       })
 
-  pub pose_reached : (x : Name) (t : Surface) (d : Done) → HasRoom c (deep t) → Gives (do_pose c x t) d → IsReached c d
+  pub pose_reached : (x : Name) (t : Surface) (d : Done) → IsFound c t None → Gives (do_pose c x t) d → IsReached c d
   unfolding do_pose under_let
-  pose_reached x t d few y =
+  pose_reached x t d find y =
       let f = gives_bind (term_of c t None) _ d y in
-      let k = term_found c s t None f.0 tt few f.1 in
+      let k = find f.0 f.1 in
       let n = gives_bind (unused c x) _ d f.2 in
       let h : Hypothesis = record { name = x; body = Some f.0.term; kind = f.0.kind } in
       let g = more_context f.0.store c.context h (context_keeps c.store f.0.store k.0.keeps [] c.context s.context) (unused_new c x n.0 n.1) k.1 k.2 in
@@ -294,10 +294,10 @@ unfolding prim_row names_made
 prim_kept c (intro x) st s e few y = intro_kept c x st s (λ z. omega (arith, few)) y
 prim_kept c (intros []) st s e few y = intro_all_kept most_binders c st s e (omega (arith, few)) y
 prim_kept c (intros (x ∷ xs)) st s e few y = intro_each_kept (x ∷ xs) c st s e y
-prim_kept c (exact t) st s e few y = ended_kept c (do_exact c t) st s (λ d z. exact_reached c s t d few z) y
-prim_kept c (refine t) st s e few y = ended_kept c (do_refine c t) st s (λ d z. refine_reached c s t d few z) y
-prim_kept c (apply_with t) st s e few y = ended_kept c _ st s (λ d z. apply_reached c s true t d few z) y
-prim_kept c (eapply t) st s e few y = ended_kept c _ st s (λ d z. apply_reached c s false t d few z) y
+prim_kept c (exact t) st s e few y = ended_kept c (do_exact c t) st s (λ d z. exact_reached c s t d (λ f q. term_found c s t (Some c.kind) f s.kind few q) z) y
+prim_kept c (refine t) st s e few y = ended_kept c (do_refine c t) st s (λ d z. refine_reached c s t d (λ f q. term_found c s t (Some c.kind) f s.kind few q) z) y
+prim_kept c (apply_with t) st s e few y = ended_kept c _ st s (λ d z. apply_reached c s true t d (λ f q. term_found c s t None f tt few q) (omega (arith, few)) z) y
+prim_kept c (eapply t) st s e few y = ended_kept c _ st s (λ d z. apply_reached c s false t d (λ f q. term_found c s t None f tt few q) (omega (arith, few)) z) y
 prim_kept c assumption st s e few y =
     ended_kept c (first_assumption c (reverse c.context)) st s
     (λ d z. assumption_reached c s (reverse c.context) d (all_turned (λ h. is_listed (names_in c.context) h.name ≡ true) c.context (all_listed (names_in c.context) c.context (λ x l. l))) z) y
@@ -308,10 +308,10 @@ prim_kept c (constructor (Some n)) st s e few y =
 prim_kept c split st s e few y = ended_kept c _ st s (λ d z. numbered_row_reached c s 1 0 d few z) y
 prim_kept c to_left st s e few y = ended_kept c _ st s (λ d z. numbered_row_reached c s 2 0 d few z) y
 prim_kept c to_right st s e few y = ended_kept c _ st s (λ d z. numbered_row_reached c s 2 1 d few z) y
-prim_kept c (exists t) st s e few y = ended_kept c (do_exists c t) st s (λ d z. exists_reached c s t d few z) y
-prim_kept c (assert_that x A) st s e few y = ended_kept c (do_assert c x A) st s (λ d z. assert_reached c s x A d few z) y
-prim_kept c (cut_by A) st s e few y = ended_kept c (do_cut c A) st s (λ d z. cut_reached c s A d few z) y
-prim_kept c (pose x t) st s e few y = ended_kept c (do_pose c x t) st s (λ d z. pose_reached c s x t d few z) y
+prim_kept c (exists t) st s e few y = ended_kept c (do_exists c t) st s (λ d z. exists_reached c s t d (λ A h f q. term_found c s t (Some A) f h few q) (omega (arith, few)) z) y
+prim_kept c (assert_that x A) st s e few y = ended_kept c (do_assert c x A) st s (λ d z. assert_reached c s x A d (λ f q. term_found c s A None f tt few q) z) y
+prim_kept c (cut_by A) st s e few y = ended_kept c (do_cut c A) st s (λ d z. cut_reached c s A d (λ f q. term_found c s A None f tt few q) z) y
+prim_kept c (pose x t) st s e few y = ended_kept c (do_pose c x t) st s (λ d z. pose_reached c s x t d (λ f q. term_found c s t None f tt few q) z) y
 prim_kept c exfalso st s e few y = ended_kept c (do_exfalso c) st s (λ d z. exfalso_reached c s d z) y
 prim_kept c reflexivity st s e few y = ended_kept c (do_reflexivity c) st s (λ d z. reflexivity_reached c s d few z) y
 
