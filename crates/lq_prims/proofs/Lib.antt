@@ -27,3 +27,6 @@ pub mod MoveLaws
 pub mod IntrosLaws
 pub mod ElabWorks
 pub mod SortLaws
+pub mod WrittenLaws
+pub mod LeaveLaws
+pub mod TermLaws

@@ -8,3 +8,5 @@ pub mod Listing
 pub mod Finishing
 pub mod Equalities
 pub mod Moving
+pub mod Leaving
+pub mod Making

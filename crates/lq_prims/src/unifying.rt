@@ -91,7 +91,7 @@ pub(crate) fn apart(bank: &mut Bank<'_>, store: &Store, left: TermId, right: Ter
 }
 
 /// The same context.
-fn copied(alloc: Global, context: &Context) -> Result<Context, NoMemory>
+pub(crate) fn copied(alloc: Global, context: &Context) -> Result<Context, NoMemory>
     ensures { IfOk result (λ c. c ≡ context.now) }
 {
     match Vec::from_slice(alloc, context.hypotheses()) {
