@@ -1,5 +1,5 @@
 -- The goals that a row leaves.
-use Rattle.std.proofs.Common.{◌≡◌, refl, sym, ap, ℕ, List, [], ◌∷◌, Result, Ok, Err}
+use Rattle.std.proofs.Common.{◌≡◌, refl, sym, ap, ℕ, List, [], ◌∷◌, Result, Ok, Err, Vec, Global}
 use Rattle.std.specs.Prelude.{IfOk, OnOk}
 use Rattle.std.proofs.Common.{subst as along}
 use Rattle.lq_trees.specs.Ticks.{gives, ◌>>=◌}
@@ -39,3 +39,8 @@ pub give_leaves : (c : Scene) (d : Done) (bank : Terms) (p : Places) (ks : List 
     OnOk r (Leaves c.store c.goal (store_of bank p) ks)
 give_leaves c d bank p ks (Ok u) s h t = given_leaves c d (store_of bank p) ks s h t
 give_leaves c d bank p ks (Err e) s h t = tt
+
+pub leaves_given : (c : Scene) (d : Done) (bank : Terms) (p : Places) (r : Result (Vec ℕ Global) PrimFault) → IsScene c → IsReached c d → Tells bank (λ v. step_by (store_of bank p) v.items) r (given_to c.goal d) →
+    IfOk r (λ v. Leaves c.store c.goal (store_of bank p) v.items)
+leaves_given c d bank p (Ok v) s h t = given_leaves c d (store_of bank p) v.items s h t
+leaves_given c d bank p (Err e) s h t = tt

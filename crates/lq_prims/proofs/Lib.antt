@@ -30,3 +30,5 @@ pub mod SortLaws
 pub mod WrittenLaws
 pub mod LeaveLaws
 pub mod TermLaws
+pub mod MakingLaws
+pub mod BuildLaws

@@ -1,11 +1,14 @@
 -- Written terms in a row, and the variables that they made.
-use Rattle.std.proofs.Common.{◌≡◌, ◌∙◌, ◌≤◌, ◌-◌, refl, sym, ap, arith, ℕ, zero, suc, Bool, true, false, List, [], ◌∷◌, length, take, Option, Some}
+use Rattle.std.proofs.Common.{◌≡◌, ◌∙◌, ◌≤◌, ◌-◌, refl, sym, ap, arith, ℕ, zero, suc, Bool, true, false, List, [], ◌∷◌, length, take, Option, Some, None}
+use Rattle.std.proofs.Common.{subst as along}
 use Rattle.std.specs.Prelude.{◌==◌}
 use Rattle.std.proofs.lemmas.Bool.{eqb-true}
 use Rattle.std.proofs.lemmas.List.{length-take-le}
 use Rattle.lq_trees.specs.Tree.{Tree, Context}
 use Rattle.lq_trees.specs.Ticks.{gives, fails, ◌>>=◌, done, within, ComesTo}
 use Rattle.lq_calculus.specs.Declarations.{Env as Environment}
+use Rattle.lq_calculus.proofs.ConvSound.{Gives}
+use Rattle.lq_calculus.proofs.DeclareSound.{gives_answer}
 use Rattle.lq_calculus.proofs.Comparison.{bind_same}
 use Rattle.lq_ast.specs.Syntax.{Surface}
 use Rattle.lq_terms.specs.Terms.{Terms}
@@ -15,7 +18,12 @@ use Rattle.lq_solving.specs.Elaboration.{Found, Givens, numbers, made_between, e
 use Rattle.lq_typing.specs.declared.faults.ElabFault.{ElabFault}
 use Rattle.lq_typing.specs.Refusals.{Refuses as ElabRefuses}
 use Rattle.lq_tactics.specs.Rows.{Doing, Scene, Done, done_by, elab_work, term_of, open_of, made_open, variables_left}
+use Rattle.lq_solving.specs.Kept.{StandsIn}
+use Rattle.lq_solving.proofs.ElabKept.{Grown}
+use Rattle.lq_solving.proofs.ElabStands.{Finds}
 use Rattle.lq_tactics.specs.Primitives.{do_exact}
+use Rattle.lq_tactics.proofs.RowsKept.{IsReached, AreNew}
+use Rattle.lq_tactics.proofs.ApplyKept.{IsFound}
 use Rattle.lq_prims.specs.declared.faults.PrimFault.{PrimFault}
 use Rattle.lq_prims.specs.Making.{left_work}
 use Rattle.lq_prims.specs.Scenes.{scene_by}
@@ -129,3 +137,18 @@ module _ (E : Environment) (s : Store) (k : ℕ) (g : Context) (T : Tree) (vs : 
         does_same bank tell (Rattle.std.proofs.Common.Ok x) (λ n. found_work n >>= λ y. then_left y n) (λ n. do_exact (c n) t) b l exact_is
         (does_then bank tell (Rattle.std.proofs.Common.Ok x) found_work then_left b l l f h
         (does_at_once bank tell (Rattle.std.proofs.Common.Ok x) (then_left f 0) (ap (λ z. z >>= λ u. gives (done_by f.store f.term [])) w ∙ ap gives (sym e)) l))
+
+-- a term is found as it was elaborated
+pub found_once : (c : Scene) (t : Surface) (w : Option Tree) (f : Found) → Gives (term_of c t w) f → Finds c.store c.context f → IsFound c t w
+found_once c t w f y h x z = along (Finds c.store c.context) (same (sym (gives_answer (term_of c t w) f y) ∙ gives_answer (term_of c t w) x z)) h
+  where
+    same : Some f ≡ Some x → f ≡ x
+    same e = ap (λ o. elim o as (λ _. Found) [ Some y ↦ y | None ↦ f ]) e
+
+-- what a row reaches looks at the scene's store and context alone
+pub reached_any : (c d : Scene) (e : Done) → c.store ≡ d.store → c.context ≡ d.context → IsReached c e → IsReached d e
+reached_any c d e f g r = record {
+  grown = along (λ z. Grown z e.store) f r.grown;
+  body = along (λ z. StandsIn e.store z e.body) g r.body;
+  goals = along (λ z. AreNew z e.store e.goals) f r.goals;
+}

@@ -10,3 +10,4 @@ pub mod Equalities
 pub mod Moving
 pub mod Leaving
 pub mod Making
+pub mod Building

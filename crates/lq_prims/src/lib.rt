@@ -3,10 +3,13 @@
 
 mod assumption;
 mod binders;
+mod building;
 mod comparing;
+mod cutting;
 mod entering;
 mod equalities;
 mod exacting;
+mod exfalso;
 mod faults;
 mod finishing;
 mod giving;

@@ -7,6 +7,8 @@ ghost use Rattle.lq_solving.specs.Kept.{IsContext, IsStore, StandsIn};
 ghost use Rattle.lq_evars.specs.Places.{HasStore, store_of};
 ghost use Rattle.lq_tactics.specs.Rows.{Scene, goal_term, new_goal};
 ghost use Rattle.lq_tactics.proofs.RowsKept.{IsMade};
+ghost use Rattle.lq_terms.specs.declared.nodes.TermId.{TermId};
+ghost use Rattle.lq_prims.specs.Making.{HasIn, IsIn};
 ghost use Rattle.lq_prims.specs.Working.{Does};
 
 use crate::faults::PrimFault;
@@ -68,19 +70,16 @@ pub(crate) fn new_goal_term<L: Ledger>(
     kind: TermId,
     steps: &mut Steps<L>,
 ) -> Result<NewGoal, PrimFault>
-    requires store { HasStore work.old.bank.now store.old }
-    requires kept { IsStore (store_of work.old.bank.now store.old) }
-    requires context { HasContext work.old.bank.now context.now }
-    requires hypotheses { IsContext (store_of work.old.bank.now store.old) (context_of work.old.bank.now context.now) }
-    requires has { HasTerm work.old.bank.now kind }
-    requires kind { StandsIn (store_of work.old.bank.now store.old) (context_of work.old.bank.now context.now) (tree_of work.old.bank.now kind) }
+    requires place { IsIn work.old.bank.now store.old context.now }
+    requires kind { HasIn work.old.bank.now store.old context.now kind }
     ensures answer { (c : ℕ → Scene) → ((n : ℕ) → (c n).bound ≡ n) → Does work.new.bank.now (λ g. (store_of work.new.bank.now store.new, g.goal)) result
         (λ n. new_goal (c n) (store_of work.old.bank.now store.old) (context_of work.old.bank.now context.now) (tree_of work.old.bank.now kind))
         work.old.ticks.now.left work.new.ticks.now.left }
     ensures made { IfOk result (λ g. IsMade (store_of work.old.bank.now store.old) (context_of work.old.bank.now context.now)
         (store_of work.new.bank.now store.new, g.goal)) }
     ensures term { IfOk result (λ g. IsTerm work.new.bank.now g.term (goal_term g.goal (context_of work.old.bank.now context.now))) }
-    ensures has { OnOk result (HasStore work.new.bank.now store.new) }
+    ensures place { OnOk result (IsIn work.new.bank.now store.new context.now) }
+    ensures later { (t : TermId) → HasIn work.old.bank.now store.old context.now t → OnOk result (HasIn work.new.bank.now store.new context.now t) }
     ensures same_bank { work.new.bank.ghost_name ≡ work.old.bank.ghost_name }
     ensures same_ticks { work.new.ticks.ghost_name ≡ work.old.ticks.ghost_name }
     ensures grows { Grows work.old.bank.now work.new.bank.now }
