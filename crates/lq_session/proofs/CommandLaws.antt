@@ -9,9 +9,10 @@ use Rattle.lq_ast.specs.Syntax.{Bound}
 use Rattle.lq_ast.specs.declared.surface.Surface.{Surface}
 use Rattle.lq_ast.specs.declared.surface.Binders.{Binders, Typed}
 use Rattle.lq_ast.specs.declared.sentence.Group.{Group}
+use Rattle.lq_ast.specs.declared.sentence.Constructor.{Constructor}
 use Rattle.lq_ast.specs.declared.sentence.Vernac.{Vernac}
 use Rattle.lq_ast.specs.Plain.{plain, plain_binders, typed, joined}
-use Rattle.lq_ast.specs.PlainCommands.{plain_group, plain_groups, plain_type, plain_vernac}
+use Rattle.lq_ast.specs.PlainCommands.{plain_group, plain_groups, plain_constructor, plain_type, plain_vernac}
 use Rattle.lq_ast.proofs.PlainLaws.{plain_typed}
 use Rattle.lq_terms.specs.declared.nodes.NameId.{NameId}
 use Rattle.lq_terms.specs.Terms.{Terms, Grows, IsName, text_of}
@@ -19,7 +20,7 @@ use Rattle.lq_causes.specs.declared.stops.Stop.{Stop}
 use Rattle.lq_print.specs.Causes.{cause_of}
 use Rattle.lq_sessions.specs.Sessions as trees
 use Rattle.lq_sessions.specs.Sessions.{Done, refused, needs_none, needs_new}
-use Rattle.lq_sessions.specs.Declaring.{defined, stated}
+use Rattle.lq_sessions.specs.Declaring.{inductive, defined, stated}
 use Rattle.lq_sessions.specs.Sentences.{printed, command_done}
 use Rattle.lq_session.specs.declared.opened.Session.{Session}
 use Rattle.lq_session.specs.Sessions.{session_of, IsSession, Does}
@@ -79,3 +80,10 @@ module _ (old mid : Terms) (g : Grows old mid) (s : Session) (i : IsSession old 
       stating (session_of mid s) (text_of mid x) xs (plain A) ≡ command_done (session_of old s) (plain_vernac (Vernac.Lemma text gs A))
   unfolding command_done plain_vernac
   lemma_done gs xs e A = stating_done gs xs e A
+
+  pub inductive_done : (gs : List Group) (xs : List Bound) → xs ≡ plain_groups gs → (A : Surface) (cs : List Constructor) →
+      needs_none (session_of mid s) (inductive (session_of mid s) (text_of mid x) xs (plain A) (map plain_constructor cs)) ≡ command_done (session_of old s) (plain_vernac (Vernac.Inductive text gs A cs))
+  unfolding command_done plain_vernac
+  inductive_done gs xs e A cs =
+      ap₂ (λ z y. needs_none z (inductive z y xs (plain A) (map plain_constructor cs))) (session_grown old mid g s i) named.is
+      ∙ ap (λ ys. needs_none (session_of old s) (inductive (session_of old s) text ys (plain A) (map plain_constructor cs))) e

@@ -5,3 +5,4 @@ pub mod CheckLaws
 pub mod EndLaws
 pub mod CommandLaws
 pub mod InductiveLaws
+pub mod CountLaws

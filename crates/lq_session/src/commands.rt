@@ -58,7 +58,7 @@ fn place_of_name(bank: &mut Bank<'_>, name: &Name) -> Result<NameId, NoMemory>
 }
 
 /// The place of a command's name in the bank, and what its groups bind.
-fn parts_of(
+pub(crate) fn parts_of(
     bank: &mut Bank<'_>,
     name: &Name,
     groups: Items<Group>,
