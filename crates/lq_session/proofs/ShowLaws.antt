@@ -15,7 +15,7 @@ use Rattle.lq_solving.specs.Claims.{ArePlainDeclarations}
 use Rattle.lq_goals.proofs.Viewing.{kept_grown}
 use Rattle.lq_solving.specs.Stores.{Store, Variable, StoreFault as Lack, is_open, has_value}
 use Rattle.lq_states.specs.Goals.{Proof}
-use Rattle.lq_states.specs.Kept.{IsProof, IsListed}
+use Rattle.lq_states.specs.Kept.{IsProof, IsSwept, IsListed}
 use Rattle.lq_evars.specs.declared.store.StoreFault.{StoreFault}
 use Rattle.lq_evars.specs.Places.{HasNameOr}
 use Rattle.lq_evars.proofs.Growing.{store_of-grown, HasStore-grown}
@@ -58,6 +58,7 @@ is_opened_grown old new g o i = record {
   store = HasStore-grown old new g o.proof.store i.store;
   stored = kept_grown old new g o.proof.store i.store i.stored;
   proof = subst (λ st. IsProof (record { store = st; focus = o.proof.focus; frames = []; shelf = o.proof.shelf })) (sym (store_of-grown old new g o.proof.store i.store)) i.proof;
+  swept = subst (λ st. IsSwept (record { store = st; focus = o.proof.focus; frames = []; shelf = o.proof.shelf }) o.proof.given o.proof.seen) (sym (store_of-grown old new g o.proof.store i.store)) i.swept;
 }
 
 pub is_session_grown : (old new : Terms) → Grows old new → (s : Session) → IsSession old s → IsSession new s

@@ -10,7 +10,7 @@ use Rattle.lq_env.specs.Environments.{IsEnv, env_of}
 use Rattle.lq_solving.specs.Kept.{IsStore}
 use Rattle.lq_solving.specs.Claims.{ArePlainDeclarations}
 use Rattle.lq_evars.specs.Places.{store_of, HasStore}
-use Rattle.lq_states.specs.Kept.{IsProof}
+use Rattle.lq_states.specs.Kept.{IsProof, IsSwept}
 use Rattle.lq_goals.specs.Held.{proof_of}
 use Rattle.lq_kernel.specs.Closed.{IsScoped}
 use Rattle.lq_print.specs.declared.entries.PrintFault.{PrintFault}
@@ -40,6 +40,7 @@ pub record IsOpened (bank : Terms) (o : Opened) : Type 0 where
   pub store : HasStore bank o.proof.store
   pub stored : IsStore (store_of bank o.proof.store)
   pub proof : IsProof (proof_of bank o.proof)
+  pub swept : IsSwept (proof_of bank o.proof) o.proof.given o.proof.seen
 
 -- the bank has a session, and it is one
 pub record IsSession (bank : Terms) (s : Session) : Type 0 where

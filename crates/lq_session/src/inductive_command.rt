@@ -46,7 +46,7 @@ fn parameters_of(alloc: Global, groups: &[Group]) -> Result<usize, AllocError>
     Ok(marks.len())
 }
 
-/// `Inductive` as it is read: see `declare_family`. There are fewer than 4,294,967,296 constructors, as a script has at most 4,194,304 bytes.
+/// `Inductive` as it is read: see `declare_family`. There are fewer than 4,294,967,296 constructors, as a sentence has at most 65,536 bytes.
 /// The bank may grow by the name, also where the command is refused.
 pub fn command_inductive<L: Ledger>(
     work: &mut Work<'_, '_>,

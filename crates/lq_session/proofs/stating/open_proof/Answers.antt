@@ -9,4 +9,5 @@ returns-clause-is c = record {
   store = c.in_ok-proof.ensures.has c.args.bank.now c.requires.scoped.has;
   stored = c.in_ok-proof.ensures.stands c.args.bank.now (tt, c.requires.stands);
   proof = started_kept c.args.bank.now c.in_ok-proof.proof (tree_of c.args.bank.now c.args.statement) (c.in_ok-proof.ensures.told c.args.bank.now);
+  swept = c.in_ok-proof.ensures.swept c.args.bank.now;
 }
