@@ -34,8 +34,12 @@ use std::sync::ledger::Ledger;
 /// A number that no variable has.
 const NO_VARIABLE: u32 = 4_294_967_295;
 
-/// The hypotheses of a context, with any terms.
-fn places_in(bank: &Bank<'_>, context: &[Hypothesis]) -> Result<IndexMap<NameId, TermId>, NoMemory>
+/// The hypotheses of a context, each with some term: what `lq_unify::is_barred_in` takes, where a term may hold the hypotheses of
+/// that context alone. `Err`: there was no memory.
+pub fn places_in(
+    bank: &Bank<'_>,
+    context: &[Hypothesis],
+) -> Result<IndexMap<NameId, TermId>, NoMemory>
     requires { HasContext bank.now context.now }
     ensures are { IfOk result (λ m. (x : Name) → has_no_place (places_of bank.now m.entries) x ≡ not (is_listed (names_in (context_of bank.now context.now)) x)) }
     ensures has { IfOk result (λ m. HasPlaces bank.now m.entries) }
