@@ -31,4 +31,5 @@ mod views;
 pub use elaborating::{Elaborated, Written, elaborate};
 pub use forms::sort_of;
 pub use naming::places_in;
+pub use shutting::filled;
 pub use sites::Given;

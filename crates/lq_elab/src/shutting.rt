@@ -106,8 +106,9 @@ fn filled_wide(
     put_for(bank, opened, name, value)
 }
 
-/// The rest of a product with a value for its bound variable.
-pub(crate) fn filled(
+/// The rest of a product with a value for its bound variable, however large that is; the rest holds hypotheses of that context alone.
+/// `Err`: there was no memory.
+pub fn filled(
     bank: &mut Bank<'_>,
     context: &[Hypothesis],
     rest: TermId,
