@@ -20,7 +20,7 @@ pub fresh_named : (c : Scene) (g : Context) (w : Option Name) (b x : Name) → c
 unfolding intro_name
 fresh_named c g w b x e n is = ap (λ z. intro_name c z b) n ∙ ap (λ z. gives (fresh_of (names_in z) (or_h b))) e ∙ ap gives (sym is)
 
-unused_at : (c : Scene) (x : Name) (o : Bool) → is_listed (names_in c.context) x ≡ o → unused c x ≡ elim o as (λ z. Doing Name) [ true ↦ fails (used_name x) | false ↦ gives x ]
+pub unused_at : (c : Scene) (x : Name) (o : Bool) → is_listed (names_in c.context) x ≡ o → unused c x ≡ elim o as (λ z. Doing Name) [ true ↦ fails (used_name x) | false ↦ gives x ]
 unfolding unused
 unused_at c x o e = ap (λ b. elim b as (λ z. Doing Name) [ true ↦ fails (used_name x) | false ↦ gives x ]) e
 
@@ -42,3 +42,12 @@ count_fresh bank hs count b x e l is =
   where
     few : (m : ℕ) → length hs ≡ m → m < 10 ^ 64
     few m q = omega (arith, e, l, q)
+
+-- a written name alone
+pub name_free : (c : Scene) (g : Context) (x : Name) → c.context ≡ g → is_listed (names_in g) x ≡ false → unused c x ≡ gives x
+name_free c g x e f = unused_at c x false (ap (λ z. is_listed (names_in z) x) e ∙ f)
+
+pub name_used : (bank : Terms) (c : Scene) (g : Context) (x : NameId) → c.context ≡ g → HasName bank x → is_listed (names_in g) (text_of bank x) ≡ true → (m : ℕ) →
+    Refuses bank (PrimFault.NameInUse x) (λ n. unused c (text_of bank x)) m m
+name_used bank c g x e has f m =
+    refuses_at_once bank (PrimFault.NameInUse x) (used_name (text_of bank x)) (unused c (text_of bank x)) (has, refl) (unused_at c (text_of bank x) true (ap (λ z. is_listed (names_in z) (text_of bank x)) e ∙ f)) m

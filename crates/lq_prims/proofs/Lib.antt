@@ -32,3 +32,11 @@ pub mod LeaveLaws
 pub mod TermLaws
 pub mod MakingLaws
 pub mod BuildLaws
+pub mod AfterLaws
+pub mod BehindLaws
+pub mod PoseLaws
+pub mod AssertLaws
+pub mod DependLaws
+pub mod SettleLaws
+pub mod RefineLaws
+pub mod RowsLeave

@@ -104,7 +104,7 @@ normal_err bank t b left f e q h = along (λ z. Refuses bank z (λ n. beta_norma
 
 -- ---- a new goal
 
-grouped : {A B C D : Type 0} (w : Doing A) (k : A → Doing B) (h : B → Doing C) (f : C → Doing D) → (w >>= λ a. (k a >>= h) >>= f) ≡ (((w >>= k) >>= h) >>= f)
+pub grouped : {A B C D : Type 0} (w : Doing A) (k : A → Doing B) (h : B → Doing C) (f : C → Doing D) → (w >>= λ a. (k a >>= h) >>= f) ≡ (((w >>= k) >>= h) >>= f)
 unfolding ◌>>=◌
 grouped (gives a) k h f = refl
 grouped (fails x) k h f = refl

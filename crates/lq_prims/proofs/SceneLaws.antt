@@ -89,6 +89,10 @@ module _ (bank : Terms) (s : Places) (k : ℕ) (q : IsGoal bank s k) where
         within = along (Within 0) (sym e) stands.1.within;
       }
 
+  -- and it stands in the goal's context
+  pub type_stands : (A : TermId) → ((v : TreeVariable) → slice_get (store_of bank s).variables k ≡ Some v → tree_of bank A ≡ v.kind) → StandsIn (store_of bank s) (context_at (store_of bank s) k) (tree_of bank A)
+  type_stands A g = along (λ z. StandsIn (store_of bank s) z (tree_of bank A)) (sym context_is) (along (StandsIn (store_of bank s) there.0.context) (sym (g there.0 there.1)) stands.1)
+
 -- the same in a bank that has grown
 module _ (old new : Terms) (g : Grows old new) where
   pub goal_grown : (s : Places) (k : ℕ) → IsGoal old s k → IsGoal new s k

@@ -1,5 +1,5 @@
 -- Written terms in a row, and the variables that they made.
-use Rattle.std.proofs.Common.{◌≡◌, ◌∙◌, ◌≤◌, ◌-◌, refl, sym, ap, arith, ℕ, zero, suc, Bool, true, false, List, [], ◌∷◌, length, take, Option, Some, None}
+use Rattle.std.proofs.Common.{◌≡◌, ◌∙◌, ◌≤◌, ◌-◌, refl, sym, ap, ap₂, arith, ℕ, zero, suc, Bool, true, false, List, [], ◌∷◌, length, take, Option, Some, None}
 use Rattle.std.proofs.Common.{subst as along}
 use Rattle.std.specs.Prelude.{◌==◌}
 use Rattle.std.proofs.lemmas.Bool.{eqb-true}
@@ -11,10 +11,13 @@ use Rattle.lq_calculus.proofs.ConvSound.{Gives}
 use Rattle.lq_calculus.proofs.DeclareSound.{gives_answer}
 use Rattle.lq_calculus.proofs.Comparison.{bind_same}
 use Rattle.lq_ast.specs.Syntax.{Surface}
-use Rattle.lq_terms.specs.Terms.{Terms}
+use Rattle.lq_terms.specs.declared.nodes.TermId.{TermId}
+use Rattle.lq_terms.specs.Terms.{Terms, HasTerm, Grows, tree_of}
+use Rattle.lq_evars.specs.Places.{Places, HasStore, store_of}
+use Rattle.lq_evars.proofs.Growing.{store_of-grown}
 use Rattle.lq_solving.specs.Stores.{Store, is_open, count}
 use Rattle.lq_solving.specs.ElabFaults.{Elab}
-use Rattle.lq_solving.specs.Elaboration.{Found, Givens, numbers, made_between, elaborate_call}
+use Rattle.lq_solving.specs.Elaboration.{Found, Givens, found, numbers, made_between, elaborate_call}
 use Rattle.lq_typing.specs.declared.faults.ElabFault.{ElabFault}
 use Rattle.lq_typing.specs.Refusals.{Refuses as ElabRefuses}
 use Rattle.lq_tactics.specs.Rows.{Doing, Scene, Done, done_by, elab_work, term_of, open_of, made_open, variables_left}
@@ -152,3 +155,8 @@ reached_any c d e f g r = record {
   body = along (λ z. StandsIn e.store z e.body) g r.body;
   goals = along (λ z. AreNew z e.store e.goals) f r.goals;
 }
+
+-- what was found, in a bank that has grown
+pub found_as : (mid new : Terms) → Grows mid new → (s : Places) → HasStore mid s → (t A : TermId) → HasTerm mid t → HasTerm mid A →
+    found (store_of new s) (tree_of new t) (tree_of new A) ≡ found (store_of mid s) (tree_of mid t) (tree_of mid A)
+found_as mid new g s h t A has k = ap (λ z. found z (tree_of new t) (tree_of new A)) (store_of-grown mid new g s h) ∙ ap₂ (λ u B. found (store_of mid s) u B) (g.tree t has) (g.tree A k)

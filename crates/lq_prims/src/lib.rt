@@ -1,11 +1,15 @@
 //! The primitives of the first table: what each does on one goal.
 #![tactic(auto)]
 
+mod asserting;
 mod assumption;
+mod bare_rows;
+mod behind;
 mod binders;
 mod building;
 mod comparing;
 mod cutting;
+mod depending;
 mod entering;
 mod equalities;
 mod exacting;
@@ -22,8 +26,11 @@ mod naming;
 mod needing;
 mod new_goals;
 mod placing;
+mod posing;
+mod refining;
 mod reflecting;
 mod rooms;
+mod settling;
 mod sorts;
 mod standing;
 mod terms;

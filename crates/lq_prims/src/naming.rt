@@ -1,12 +1,12 @@
 //! Names of new hypotheses.
 
-ghost use Rattle.std.specs.Prelude.{◌≡◌, ◌<◌, false, length, option_map, Option, IfOk};
+ghost use Rattle.std.specs.Prelude.{◌≡◌, ◌<◌, false, length, option_map, Option, IfOk, OnOk};
 ghost use Rattle.lq_trees.specs.Fresh.{is_listed, fresh_of};
 ghost use Rattle.lq_terms.specs.Terms.{HasName, IsName, text_of, Grows};
 ghost use Rattle.lq_terms.specs.Contexts.{HasContext, context_of};
 ghost use Rattle.lq_solving.specs.Stores.{names_in};
 ghost use Rattle.lq_evars.specs.Places.{HasNameOr};
-ghost use Rattle.lq_tactics.specs.Rows.{Scene};
+ghost use Rattle.lq_tactics.specs.Rows.{Scene, unused};
 ghost use Rattle.lq_tactics.specs.Primitives.{or_h, intro_name};
 ghost use Rattle.lq_prims.specs.Working.{Tells};
 
@@ -53,6 +53,21 @@ pub(crate) fn fresh_beside(
 {
     let base = base_of(bank, binder)?;
     name_under(bank, context, base)
+}
+
+/// Refuses as `NameInUse` where a hypothesis has the name.
+pub(crate) fn unused(bank: &Bank<'_>, context: &[Hypothesis], name: NameId) -> Result<(), PrimFault>
+    requires context { HasContext bank.now context.now }
+    requires name { HasName bank.now name }
+    ensures answer { (c : Scene) → c.context ≡ context_of bank.now context.now
+        → Tells bank.now (λ u. text_of bank.now name) result (unused c (text_of bank.now name)) }
+    ensures new { OnOk result (is_listed (names_in (context_of bank.now context.now)) (text_of bank.now name) ≡ false) }
+{
+    if is_used(bank, context, name) {
+        Err(PrimFault::NameInUse(name))
+    } else {
+        Ok(())
+    }
 }
 
 /// The name of a new hypothesis: the one that is written, unless a hypothesis has it, or else a fresh one from the binder's.

@@ -1,0 +1,32 @@
+use Rattle.std.proofs.Common.{sym, arith, [], Ok}
+use Rattle.std.proofs.Common.{subst as along}
+use Rattle.lq_ast.specs.Syntax.{reflexivity}
+use Rattle.lq_trees.specs.Ticks.{done, ComesTo}
+use Rattle.lq_evars.specs.Places.{store_of}
+use Rattle.lq_tactics.specs.Primitives.{prim_row}
+use Rattle.lq_tactics.proofs.PrimsKept.{names_made}
+use Rattle.lq_prims.specs.Scenes.{scene_in, step_by}
+use Rattle.lq_prims.proofs.RowsLeave.{row_leaves}
+use Rattle.lq_prims.proofs.bare_rows.reflexivity_row.Goals as goal
+
+pub returns-in-Ok-clause-answer : goal.returns-in-Ok-clause-answer
+unfolding prim_row
+returns-in-Ok-clause-answer g c vs =
+    let bank = c.args.work.now.bank.now in
+    let new = c.reflexivity.new.work.bank.now in
+    along (λ ks. ComesTo (λ n. prim_row (scene_in bank c.args.env.now c.args.store.now c.args.goal c.args.kind vs n) reflexivity) c.args.work.now.ticks.now.left (done (step_by (store_of new c.reflexivity.new.store) ks) c.reflexivity.new.work.ticks.now.left)) (sym c.new.ensures.items)
+    (c.in-Ok.ensures.answer vs)
+
+pub returns-in-Ok-clause-leaves : goal.returns-in-Ok-clause-leaves
+unfolding prim_row names_made
+returns-in-Ok-clause-leaves g c =
+    let bank = c.args.work.now.bank.now in
+    let new = c.reflexivity.new.work.bank.now in
+    row_leaves bank c.args.env.now c.args.store.now c.args.goal c.args.kind c.requires.placed c.requires.valueless (c.has_room.ensures bank c.requires.placed.place) reflexivity (omega arith) c.args.work.now.ticks.now.left c.reflexivity.new.work.ticks.now.left
+    (omega (arith, c.args.work.now.ticks.now.bounded)) new c.reflexivity.new.store (Ok c.new.result)
+    (along (λ ks. ComesTo (λ n. prim_row (scene_in bank c.args.env.now c.args.store.now c.args.goal c.args.kind [] n) reflexivity) c.args.work.now.ticks.now.left (done (step_by (store_of new c.reflexivity.new.store) ks) c.reflexivity.new.work.ticks.now.left)) (sym c.new.ensures.items)
+    (c.in-Ok.ensures.answer []))
+
+pub returns-in-Err-clause-answer : goal.returns-in-Err-clause-answer
+unfolding prim_row
+returns-in-Err-clause-answer g c vs = c.in-Err.ensures.answer vs
