@@ -6,3 +6,4 @@ pub mod EndLaws
 pub mod CommandLaws
 pub mod InductiveLaws
 pub mod CountLaws
+pub mod ChoiceLaws

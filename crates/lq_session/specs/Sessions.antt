@@ -1,5 +1,5 @@
 -- Sessions by places of a bank, and what a sentence does.
-use Rattle.std.specs.Prelude.{◌≡◌, ◌<◌, List, ℕ, [], length, option_map, IfSome, None, Result, Ok, Err}
+use Rattle.std.specs.Prelude.{◌≡◌, Bool, true, false, List, ℕ, [], option_map, IfSome, None, Result, Ok, Err}
 use Rattle.lq_ast.specs.declared.sentence.Vernac.{Vernac}
 use Rattle.lq_trees.specs.Tree.{Name, Tree}
 use Rattle.lq_calculus.specs.Declarations.{lookup}
@@ -74,7 +74,12 @@ abbrev pub MayDeclare : Terms → Session → NameId → Result (Unit {0}) Stop 
 MayDeclare bank s x (Ok ok) = (s.opened ≡ None) × (lookup (env_of bank s.env) (text_of bank x) ≡ None)
 MayDeclare bank s x (Err stop) = (d : Done) → Does bank bank (Err stop) s s (needs_none (session_of bank s) (needs_new (session_of bank s) (text_of bank x) d))
 
--- a command declares fewer constructors than a number of 32 bits counts
-abbrev pub HasFew : Vernac → Type 0
-HasFew (Vernac.Inductive x gs A cs) = length cs < 4294967296
-HasFew c = Unit {0}
+-- whether a command declares, or opens or ends a proof of what is declared
+unfoldable pub is_declaring : Vernac → Bool
+is_declaring (Vernac.Inductive x gs A cs) = true
+is_declaring (Vernac.Definition x gs A t) = true
+is_declaring (Vernac.Theorem x gs A) = true
+is_declaring (Vernac.Lemma x gs A) = true
+is_declaring Vernac.Qed = true
+is_declaring Vernac.Defined = true
+is_declaring c = false

@@ -1,10 +1,11 @@
 //! `Inductive` as it is read.
 
-ghost use Rattle.std.specs.Prelude.{◌≡◌, ◌+◌, ◌<◌, length, IfOk, OnOk, OnErr};
+ghost use Rattle.std.specs.Prelude.{◌≡◌, ◌+◌, length, IfOk, OnOk, OnErr};
 ghost use Rattle.lq_ast.specs.PlainCommands.{plain_groups, plain_vernac};
 ghost use Rattle.lq_ast.specs.declared.sentence.Vernac.{Vernac};
 ghost use Rattle.lq_terms.specs.Terms.{Grows};
 ghost use Rattle.lq_sessions.specs.Sentences.{command_done};
+ghost use Rattle.lq_env.specs.Environments.{Extends};
 ghost use Rattle.lq_session.specs.Sessions.{session_of, IsSession, Does};
 
 use crate::commands::parts_of;
@@ -46,8 +47,7 @@ fn parameters_of(alloc: Global, groups: &[Group]) -> Result<usize, AllocError>
     Ok(marks.len())
 }
 
-/// `Inductive` as it is read: see `declare_family`. There are fewer than 4,294,967,296 constructors, as a sentence has at most 65,536 bytes.
-/// The bank may grow by the name, also where the command is refused.
+/// `Inductive` as it is read: see `declare_family`. The bank may grow by the name, also where the command is refused.
 pub fn command_inductive<L: Ledger>(
     work: &mut Work<'_, '_>,
     session: &mut Session,
@@ -59,10 +59,12 @@ pub fn command_inductive<L: Ledger>(
 ) -> Result<Text, Stop>
     requires session { IsSession work.old.bank.now session.old }
     requires budget { work.old.ticks.now.left ≡ session.old.kernel }
-    requires few { length constructors.now < 4294967296 }
     ensures answer { Does work.old.bank.now work.new.bank.now result session.old session.new (command_done (session_of work.old.bank.now session.old)
         (plain_vernac (Vernac.Inductive name.now groups kind.now constructors.now))) }
     ensures session { IsSession work.new.bank.now session.new }
+    ensures extends { Extends session.old.env session.new.env }
+    ensures same_steps { session.new.steps ≡ session.old.steps }
+    ensures same_kernel { session.new.kernel ≡ session.old.kernel }
     ensures kept { OnErr result (session.new ≡ session.old) }
     ensures same_bank { work.new.bank.ghost_name ≡ work.old.bank.ghost_name }
     ensures same_ticks { work.new.ticks.ghost_name ≡ work.old.ticks.ghost_name }

@@ -60,3 +60,6 @@ returns-in-Err-define_family-clause-grows g c =
 
 pub returns-in_err-line-clause-session : goal.returns-in_err-line-clause-session
 returns-in_err-line-clause-session g c = is_session_grown c.args.work.now.bank.now c.refuse_taken.new.bank c.in-Ok-refuse_taken.ensures.grows c.args.session.now c.requires.session
+
+pub returns-then-constructors-ge-MOST_CONSTRUCTORS-clause-session : goal.returns-then-constructors-ge-MOST_CONSTRUCTORS-clause-session
+returns-then-constructors-ge-MOST_CONSTRUCTORS-clause-session g c = is_session_grown c.args.work.now.bank.now c.refuse_taken.new.bank c.in-Ok-refuse_taken.ensures.grows c.args.session.now c.requires.session
