@@ -1,2 +1,4 @@
+pub mod ReportLaws
+pub mod RunLaws
 pub mod SentenceLaws
 pub mod FoldLaws

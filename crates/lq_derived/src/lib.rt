@@ -1,2 +1,2 @@
-//! Laws: the declarations of every session are derived by the typing rules, whatever sentence is run.
+//! Laws: the declarations of every session are derived by the typing rules, and told by a line each, whatever sentence is run.
 #![tactic(auto)]
