@@ -40,3 +40,5 @@ pub mod DependLaws
 pub mod SettleLaws
 pub mod RefineLaws
 pub mod RowsLeave
+pub mod OpenLaws
+pub mod ChooseLaws

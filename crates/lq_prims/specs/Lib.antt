@@ -11,3 +11,4 @@ pub mod Moving
 pub mod Leaving
 pub mod Making
 pub mod Building
+pub mod Opening

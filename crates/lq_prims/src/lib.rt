@@ -25,6 +25,7 @@ mod moving;
 mod naming;
 mod needing;
 mod new_goals;
+mod opening;
 mod placing;
 mod posing;
 mod refining;
