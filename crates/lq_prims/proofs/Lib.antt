@@ -19,6 +19,11 @@ pub mod ShelfLaws
 pub mod FinishLaws
 pub mod RunLaws
 pub mod EqualityLaws
+pub mod FamilyLaws
+pub mod InductiveLaws
+pub mod InductiveRows
+pub mod ConstructorLaws
+pub mod ConstructorStands
 pub mod UnifyLaws
 pub mod ToldLaws
 pub mod ReflexLaws

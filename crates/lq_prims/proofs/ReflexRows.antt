@@ -42,7 +42,7 @@ pub form_limits : (t u : Tree) → Gives (needed_form t) u → size_fault u ≡ 
 form_limits t u y = elab_limits t u (by_gives by_elab (elab_fitting t) u y)
 
 -- a term within the limits is needed as it is
-needed_now : (t : Tree) → size_fault t ≡ None → needed t ≡ gives t
+pub needed_now : (t : Tree) → size_fault t ≡ None → needed t ≡ gives t
 unfolding needed
 needed_now t e = ap (λ o. elim o as (λ z. Doing Tree) [ None ↦ gives t | Some f ↦ fails (by_store_call f) ]) e
 

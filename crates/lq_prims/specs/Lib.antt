@@ -7,6 +7,7 @@ pub mod Placing
 pub mod Listing
 pub mod Finishing
 pub mod Equalities
+pub mod Inductives
 pub mod Moving
 pub mod Leaving
 pub mod Making
