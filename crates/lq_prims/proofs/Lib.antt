@@ -47,3 +47,4 @@ pub mod RefineLaws
 pub mod RowsLeave
 pub mod OpenLaws
 pub mod ChooseLaws
+pub mod PremiseLaws

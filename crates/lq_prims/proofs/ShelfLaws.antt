@@ -16,7 +16,7 @@ abbrev pub one_more : Bool → ℕ → List ℕ → List ℕ
 one_more true k ks = k ∷ ks
 one_more false k ks = ks
 
-one_behind : (found : List ℕ) (k : ℕ) (ks : List ℕ) → (found ++ k ∷ []) ++ ks ≡ found ++ k ∷ ks
+pub one_behind : (found : List ℕ) (k : ℕ) (ks : List ℕ) → (found ++ k ∷ []) ++ ks ≡ found ++ k ∷ ks
 one_behind [] k ks = refl
 one_behind (j ∷ found) k ks = ap (λ z. j ∷ z) (one_behind found k ks)
 

@@ -13,3 +13,4 @@ pub mod Leaving
 pub mod Making
 pub mod Building
 pub mod Opening
+pub mod Applied

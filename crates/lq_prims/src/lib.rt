@@ -29,6 +29,7 @@ mod new_goals;
 mod opening;
 mod placing;
 mod posing;
+mod premises;
 mod refining;
 mod reflecting;
 mod rooms;

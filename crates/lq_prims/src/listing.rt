@@ -1,11 +1,12 @@
 //! The variables that go to the shelf after a row.
 
-ghost use Rattle.std.specs.Prelude.{◌≡◌, ◌<◌, ◌≤◌, ◌++◌, ◌∷◌, [], length, IfOk, OnOk};
+ghost use Rattle.std.specs.Prelude.{◌≡◌, ◌<◌, ◌++◌, ◌∷◌, [], length, IfOk, OnOk};
+ghost use Rattle.std.specs.List.{AllByRecursion};
 ghost use Rattle.lq_terms.specs.Terms.{Terms};
 ghost use Rattle.lq_solving.specs.Stores.{Store as TreeStore, count};
 ghost use Rattle.lq_solving.specs.Kept.{IsStore};
 ghost use Rattle.lq_states.specs.Goals.{has, without};
-ghost use Rattle.lq_tactics.specs.Rows.{made_open};
+ghost use Rattle.lq_tactics.specs.Rows.{made_open, open_of};
 ghost use Rattle.lq_evars.specs.Places.{store_of};
 ghost use Rattle.lq_prims.specs.Listing.{is_left};
 
@@ -51,7 +52,6 @@ pub(crate) fn shelved(
     before: u32,
     goals: &[u32],
 ) -> Result<Vec<u32>, NoMemory>
-    requires { before ≤ length store.now.variables }
     ensures { IfOk result (λ v. (bank : Terms) → IsStore (store_of bank store.now) → (s : TreeStore) → count s ≡ before
         → v.items ≡ without goals.now (made_open s (store_of bank store.now))) }
 {
@@ -62,4 +62,24 @@ pub(crate) fn shelved(
         }
     }
     Ok(shelved)
+}
+
+/// Those of the variables that have no value, but for some of them.
+pub(crate) fn open_without(
+    alloc: Global,
+    store: &Store,
+    variables: &[u32],
+    but: &[u32],
+) -> Result<Vec<u32>, NoMemory>
+    requires { AllByRecursion (λ k. k < length store.now.variables) variables.now }
+    ensures { IfOk result (λ v. (bank : Terms) → IsStore (store_of bank store.now)
+        → v.items ≡ without but.now (open_of (store_of bank store.now) variables.now)) }
+{
+    let mut found = Vec::new(alloc);
+    for variable in variables {
+        if is_shelved(store, but, *variable) {
+            add(&mut found, *variable)?;
+        }
+    }
+    Ok(found)
 }

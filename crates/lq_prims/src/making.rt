@@ -17,7 +17,6 @@ use std::alloc::Global;
 
 /// The variables without a value that were made since there were so many, in order.
 pub(crate) fn made_open(alloc: Global, store: &Store, before: u32) -> Result<Vec<u32>, NoMemory>
-    requires { before ≤ length store.now.variables }
     ensures { IfOk result (λ v. (bank : Terms) → IsStore (store_of bank store.now) → (s : TreeStore) → count s ≡ before
         → v.items ≡ made_open s (store_of bank store.now)) }
 {
