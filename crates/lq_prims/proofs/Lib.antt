@@ -48,3 +48,4 @@ pub mod RowsLeave
 pub mod OpenLaws
 pub mod ChooseLaws
 pub mod PremiseLaws
+pub mod ApplyLaws

@@ -6,7 +6,7 @@ use Rattle.lq_trees.specs.Ticks.{gives, fails, ◌>>=◌}
 use Rattle.lq_calculus.proofs.ConvSound.{Gives}
 use Rattle.lq_terms.specs.declared.nodes.TermId.{TermId}
 use Rattle.lq_terms.specs.Terms.{Terms, HasTerm, tree_of}
-use Rattle.lq_tactics.specs.Rows.{RowFault, needed, told, do_not_unify}
+use Rattle.lq_tactics.specs.Rows.{RowFault, needed, told, cannot_apply, do_not_unify}
 use Rattle.lq_tactics.proofs.RowsKept.{needed_is}
 use Rattle.lq_prims.specs.declared.faults.PrimFault.{PrimFault}
 use Rattle.lq_prims.specs.Working.{Refuses}
@@ -29,7 +29,7 @@ told_none f = refl
 pub told_second : {A : Type 0} (bank : Terms) (e : PrimFault) (t u v : Tree) (ts : List Tree) (f : RowFault) (b : ℕ) → needed t ≡ gives u → Refuses bank e (λ n. needed v) b b → Refuses {A = A} bank e (λ n. told (t ∷ v ∷ ts) f) b b
 told_second bank e t u v ts f b h k = refuses_same bank e (λ n. told (v ∷ ts) f) (λ n. told (t ∷ v ∷ ts) f) b b (λ n. sym (told_rest t u (v ∷ ts) f h)) (told_first bank e v ts f b k)
 
-needed_same : (t u : Tree) → needed t ≡ gives u → t ≡ u
+pub needed_same : (t u : Tree) → needed t ≡ gives u → t ≡ u
 needed_same t u e = needed_is t u (along (λ z. Gives z u) (sym e) refl)
 
 -- both terms are told
@@ -39,3 +39,11 @@ told_both bank l r t v b x y h k =
     refuses_at_once bank (PrimFault.DoNotUnify l r) (do_not_unify (tree_of bank l) (tree_of bank r)) (told (t ∷ v ∷ []) (do_not_unify t v)) (x, y, refl)
     (told_rest t (tree_of bank l) (v ∷ []) (do_not_unify t v) h ∙ told_rest v (tree_of bank r) [] (do_not_unify t v) k ∙ told_none (do_not_unify t v)
     ∙ ap₂ (λ p q. fails (do_not_unify p q)) (needed_same t (tree_of bank l) h) (needed_same v (tree_of bank r) k)) b
+
+-- a term and a type to which it does not apply are told
+pub told_applied : {A : Type 0} (bank : Terms) (l r : TermId) (t v : Tree) (b : ℕ) → HasTerm bank l → HasTerm bank r → needed t ≡ gives (tree_of bank l) → needed v ≡ gives (tree_of bank r) →
+    Refuses {A = A} bank (PrimFault.CannotApply l r) (λ n. told (t ∷ v ∷ []) (cannot_apply t v)) b b
+told_applied bank l r t v b x y h k =
+    refuses_at_once bank (PrimFault.CannotApply l r) (cannot_apply (tree_of bank l) (tree_of bank r)) (told (t ∷ v ∷ []) (cannot_apply t v)) (x, y, refl)
+    (told_rest t (tree_of bank l) (v ∷ []) (cannot_apply t v) h ∙ told_rest v (tree_of bank r) [] (cannot_apply t v) k ∙ told_none (cannot_apply t v)
+    ∙ ap₂ (λ p q. fails (cannot_apply p q)) (needed_same t (tree_of bank l) h) (needed_same v (tree_of bank r) k)) b

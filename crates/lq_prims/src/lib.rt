@@ -1,6 +1,7 @@
 //! The primitives of the first table: what each does on one goal.
 #![tactic(auto)]
 
+mod applying;
 mod asserting;
 mod assumption;
 mod bare_rows;
