@@ -39,12 +39,12 @@ use Rattle.lq_elab.proofs.FrameLaws.{spot_grown, waits_grown, frames_grown, stan
 use Rattle.lq_elab.proofs.ScopeLaws.{scope_grown, scope_same}
 
 module _ (old new : Terms) (g : Grows old new) where
-  given_grown : (v : NameId × Given) → HasGiven old v → (◌≡◌ {A = Name × tree.Given} (text_of new v.0, given_of new v.1) (text_of old v.0, given_of old v.1)) × HasGiven new v
+  pub given_grown : (v : NameId × Given) → HasGiven old v → (◌≡◌ {A = Name × tree.Given} (text_of new v.0, given_of new v.1) (text_of old v.0, given_of old v.1)) × HasGiven new v
   given_grown (x, Given.Term t) h = (ap₂ (λ z w. (z, given_term w)) (g.text x h.0) (g.tree t h.1), (omega (arith, h.0, g.names), omega (arith, h.1, g.nodes)))
   given_grown (x, Given.Name y) h = (ap₂ (λ z w. (z, tree.given_name w)) (g.text x h.0) (g.text y h.1), (omega (arith, h.0, g.names), omega (arith, h.1, g.names)))
   given_grown (x, Given.Other) h = (ap (λ z. (z, tree.given_other)) (g.text x h), omega (arith, h, g.names))
 
-  givens_grown : (vs : List (NameId × Given)) → AllByRecursion (HasGiven old) vs → (givens_of new vs ≡ givens_of old vs) × AllByRecursion (HasGiven new) vs
+  pub givens_grown : (vs : List (NameId × Given)) → AllByRecursion (HasGiven old) vs → (givens_of new vs ≡ givens_of old vs) × AllByRecursion (HasGiven new) vs
   givens_grown [] h = (refl, tt)
   givens_grown (v ∷ vs) h = let a = given_grown v h.0 in let b = givens_grown vs h.1 in (ap₂ (λ z zs. z ∷ zs) a.0 b.0, (a.1, b.1))
 

@@ -183,7 +183,7 @@ module _ (c : Scene) (s : IsScene c) where
 
   module _ (i : Inductive) (h : IsInductive c i) where
     -- the type of a constructor at the type's parameters
-    kind_good : (k : ℕ) (d : Name × Tree) → slice_get i.family.constructors k ≡ Some d → IsGood c.store.variables c.store.values (names_in c.context) 0 (instance (parameter_values i) d.1)
+    pub kind_good : (k : ℕ) (d : Name × Tree) → slice_get i.family.constructors k ≡ Some d → IsGood c.store.variables c.store.values (names_in c.context) 0 (instance (parameter_values i) d.1)
     unfolding constructor_kind constructor_type parameter_values
     kind_good k d e =
         let plain = s.plain.constructors i.name i.family h.sorts k (constructor_type i.family d.1) h.declared (ap (λ o. elim o as (λ z. Option Tree) [ None ↦ None | Some x ↦ Some (constructor_type i.family x.1) ]) e) in
