@@ -49,3 +49,4 @@ pub mod OpenLaws
 pub mod ChooseLaws
 pub mod PremiseLaws
 pub mod ApplyLaws
+pub mod ConstructLaws

@@ -1,6 +1,6 @@
 -- A type is opened into premises, one by one.
 use Rattle.std.specs.Prelude.{leb}
-use Rattle.std.proofs.Common.{◌≡◌, ◌∙◌, ◌<◌, ◌≤◌, ◌+◌, ◌-◌, ℕ, suc, refl, sym, ap, ap₂, arith, leb-false, Bool, true, false, List, [], ◌∷◌, ◌++◌, map, length, reverse, Option, None, Result, Ok, Err}
+use Rattle.std.proofs.Common.{◌≡◌, ◌∙◌, ◌<◌, ◌≤◌, ◌-◌, ℕ, suc, refl, sym, ap, ap₂, arith, leb-false, Bool, true, false, List, [], ◌∷◌, ◌++◌, map, length, reverse, Option, None, Result, Ok, Err}
 use Rattle.std.proofs.Common.{subst as along}
 use Rattle.std.proofs.lemmas.List.{map-append, reverse-append}
 use Rattle.std.specs.List.{AllByRecursion}

@@ -14,3 +14,4 @@ pub mod Making
 pub mod Building
 pub mod Opening
 pub mod Applied
+pub mod Constructing

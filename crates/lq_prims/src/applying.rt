@@ -131,7 +131,7 @@ fn not_applied(bank: &mut Bank<'_>, store: &Store, term: TermId, wanted: TermId)
 }
 
 /// What a term with its type builds, applied to a goal's type in a context.
-fn apply_found<L: Ledger>(
+pub(crate) fn apply_found<L: Ledger>(
     work: &mut Work<'_, '_>,
     env: &Env,
     store: &mut Store,

@@ -9,6 +9,7 @@ mod behind;
 mod binders;
 mod building;
 mod comparing;
+mod constructing;
 mod cutting;
 mod depending;
 mod entering;

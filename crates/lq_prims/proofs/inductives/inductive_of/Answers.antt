@@ -1,4 +1,4 @@
-use Rattle.std.proofs.Common.{◌+◌, ◌∙◌, sym, ap, eqb, eqb-true, length, map, true, false}
+use Rattle.std.proofs.Common.{◌+◌, ◌∙◌, sym, ap, eqb, eqb-true, length, map}
 use Rattle.lq_terms.specs.Terms.{tree_of}
 use Rattle.lq_env.specs.Environments.{IsOwn, env_of}
 use Rattle.lq_env.specs.Families.{family_of}
