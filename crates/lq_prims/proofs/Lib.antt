@@ -50,3 +50,5 @@ pub mod ChooseLaws
 pub mod PremiseLaws
 pub mod ApplyLaws
 pub mod ConstructLaws
+pub mod GrownLaws
+pub mod ExistLaws

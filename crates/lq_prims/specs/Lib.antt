@@ -15,3 +15,4 @@ pub mod Building
 pub mod Opening
 pub mod Applied
 pub mod Constructing
+pub mod Existing

@@ -16,6 +16,7 @@ mod entering;
 mod equalities;
 mod exacting;
 mod exfalso;
+mod existing;
 mod faults;
 mod finishing;
 mod giving;
