@@ -52,3 +52,7 @@ pub mod ApplyLaws
 pub mod ConstructLaws
 pub mod GrownLaws
 pub mod ExistLaws
+pub mod AdvanceLaws
+pub mod TableLaws
+pub mod CountLaws
+pub mod FirstNames

@@ -16,3 +16,4 @@ pub mod Opening
 pub mod Applied
 pub mod Constructing
 pub mod Existing
+pub mod Advancing

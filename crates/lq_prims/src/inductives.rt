@@ -179,7 +179,7 @@ pub(crate) fn has_number(
 
 /// How many constructors the goal's type has: a tick for each contraction. It is refused as `NotInductive` where the weak head form of the
 /// goal's type is no inductive type.
-pub(crate) fn constructor_count<L: Ledger>(
+pub(crate) fn count<L: Ledger>(
     work: &mut Work<'_, '_>,
     env: &Env,
     store: &Store,

@@ -1,6 +1,7 @@
 //! The primitives of the first table: what each does on one goal.
 #![tactic(auto)]
 
+mod advancing;
 mod applying;
 mod asserting;
 mod assumption;
@@ -10,6 +11,7 @@ mod binders;
 mod building;
 mod comparing;
 mod constructing;
+mod counting;
 mod cutting;
 mod depending;
 mod entering;
@@ -36,6 +38,7 @@ mod premises;
 mod refining;
 mod reflecting;
 mod rooms;
+mod rows;
 mod settling;
 mod sorts;
 mod spines;
@@ -45,4 +48,6 @@ mod typing;
 mod unifying;
 mod written;
 
+pub use advancing::{PrimDone, advance, run_prim};
+pub use counting::constructor_count;
 pub use faults::PrimFault;

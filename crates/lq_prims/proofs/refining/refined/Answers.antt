@@ -1,7 +1,6 @@
 use Rattle.std.proofs.Common.{◌∙◌, refl, sym}
 use Rattle.lq_terms.specs.Terms.{tree_of}
 use Rattle.lq_evars.specs.Places.{store_of}
-use Rattle.lq_tactics.specs.Rows.{as_goals}
 use Rattle.lq_prims.specs.declared.building.Built.{Built}
 use Rattle.lq_prims.specs.Building.{built_done}
 use Rattle.lq_prims.proofs.BuildLaws.{built_is}

@@ -5,7 +5,7 @@ use Rattle.lq_prims.specs.Scenes.{scene_in}
 use Rattle.lq_prims.proofs.InductiveRows.{count_refused, count_done}
 use Rattle.lq_prims.proofs.ConstructorLaws.{count_is}
 use Rattle.lq_prims.proofs.WorkLaws.{handed_on}
-use Rattle.lq_prims.proofs.inductives.constructor_count.Goals as goal
+use Rattle.lq_prims.proofs.inductives.count.Goals as goal
 
 pub returns-in_err-inductive-clause-answer : goal.returns-in_err-inductive-clause-answer
 returns-in_err-inductive-clause-answer g c vs =
